@@ -11,17 +11,21 @@ use Rattle.model.specs.declared.Cell.{Cell}
 use Rattle.model.specs.declared.Merge.{Merge}
 use Rattle.model.specs.declared.Format.{Format}
 use Rattle.model.specs.declared.Format.the-variants.{Full, Compact}
+use Rattle.model.specs.declared.Options.{Options}
 use Rattle.model.specs.declared.Checked.the-variants.{Accepted}
 use Rattle.model.specs.declared.Written.the-variants.{Done}
-use Rattle.model.specs.Word.{bit}
-use Rattle.model.specs.Program.{Program, programOf}
+use Rattle.model.specs.declared.Answer.{Answer}
+use Rattle.model.specs.declared.Outcome.{Outcome}
+use Rattle.model.specs.declared.Outcome.the-variants.{Ended, Open}
+use Rattle.model.specs.Word.{pick, bit}
+use Rattle.model.specs.Program.{Program}
+use Rattle.model.specs.ProgramChecks.{programWith}
 use Rattle.model.specs.Rules.{Store}
-use Rattle.model.specs.Circuit.{cellAt, Netlist, control, Sig, Values, level, element, arrayAt, Obeys, delayed, remainingBefore, heldBefore, merges, stepOf, shape, kStart, kDelay}
+use Rattle.model.specs.Circuit.{cellAt, Netlist, control, memoryWords, Sig, Values, level, element, arrayAt, Obeys, delayed, remainingBefore, heldBefore, merges, stepOf, shape, kStart, kDelay}
 use Rattle.model.specs.Numbering.{netlist, finish}
 use Rattle.model.specs.NetlistFile.{fileCheck, cellsOf, netOf, finishOf, pulseOf}
-use Rattle.model.specs.TimeTables.{load, Given}
 use Rattle.model.specs.State.{instantOf, flightOf, flightIn, course, stateSize, elementNow, nowAt, beforeAt, heldAt, lineAt, remainingAt, flight, beginState, stepState, crowded, continued, sound}
-use Rattle.model.specs.Calls.{overwrite, compileCall, writeCall, readCall, wordAt}
+use Rattle.model.specs.Calls.{Returned, verdict, overwrite, compileCall, writeCall, readCall, wordAt, beginCall, continueCall, startCall, runNetlistCall}
 use Rattle.model.specs.Word.{Bytes}
 
 -- "The netlist is, cell for cell, the published circuit; the simulator's wires at each instant are the only ones the circuit's equations
@@ -136,9 +140,43 @@ pub record OneRun (net : Netlist) (starts : Sig) (words : Store) : Type 0 where
       (crowded Compact net s (stepState Compact net (starts (suc t)) s) k ≡ 0) ↔ Free (cellAt (net .cells) k .delay) (level values (cellAt (net .cells) k .a)) (suc t)
   pub controls : (k : ℕ) → k < length (net .cells) → control (cellAt (net .cells) k .kind) ≡ true → (t : ℕ) → values k t ≤ 1
 
+-- "ended exactly when a finish is due"
+abbrev pub endedIf : Bool → Outcome
+endedIf b = pick b Ended Open
+
+-- "The answer is ended or open, the instant, the sixteen words and the number of instants evaluated by that call": by the values at instant t.
+-- "Ended means that the finish wire is high at that instant, also for N of 0"; "The words at an instant, as an answer shows them, are the memories'"
+abbrev pub answerAt : List ℕ → Values → ℕ → ℕ → Answer
+answerAt file W t n =
+    record { outcome = endedIf (level W (finishOf file) t); instant = t; count = n; words = memoryWords (cellsOf file) 0 (λ k. W k t) }
+
+-- what calls that are not refused answer and leave, on the states of a run, by its values W
+pub record Answers (F : Format) (file words lent : List ℕ) (starts : Sig) (W : Values) : Type 0 where
+  pub begun : verdict (beginCall F file words lent .answer .outcome) ≡ Accepted
+      → beginCall F file words lent ≡ record { answer = answerAt file W 0 1; lent = stateAt F (netOf file) starts (wordAt words) lent 0 }
+  pub continued : (n t : ℕ) →
+      let state = stateAt F (netOf file) starts (wordAt words) lent in
+      let t′ = stopsAt (level W (finishOf file)) t n in
+      t ≤ 1000000 → NoStart starts t t′ → Apart F (netOf file) W t′ → verdict (continueCall F file n (state t) .answer .outcome) ≡ Accepted
+      → continueCall F file n (state t) ≡ record { answer = answerAt file W t′ (t′ - t); lent = state t′ }
+  pub started : (t : ℕ) →
+      let state = stateAt F (netOf file) starts (wordAt words) lent in
+      t ≤ 1000000 → starts (suc t) ≡ true → Apart F (netOf file) W (suc t) → verdict (startCall F file (state t) .answer .outcome) ≡ Accepted
+      → startCall F file (state t) ≡ record { answer = answerAt file W (suc t) 1; lent = state (suc t) }
+
+-- "A full run answers as its last call does, its calls' counts added.": from a beginning and a continuing, with what they leave
+unfoldable pub wholeOf : Outcome → Returned Answer → Returned Answer → Returned Answer
+wholeOf Ended begun on = begun
+wholeOf Open begun on =
+    record {
+      answer = record { outcome = on .answer .outcome; instant = on .answer .instant; count = begun .answer .count + on .answer .count; words = on .answer .words };
+      lent = on .lent;
+    }
+wholeOf (Outcome.Refused r) begun on = begun
+
 pub record Demand2 : Type 0 where
-  pub compiled : (G : Given) (program lent : List ℕ) (n f : ℕ) → Bytes program → compileCall (load G) program lent .answer ≡ Done n f
-      → Published (programOf (G .pulse) (G .procedures) program) (take n (compileCall (load G) program lent .lent)) f
+  pub compiled : (options : Options) (program lent : List ℕ) (n f : ℕ) → Bytes program → compileCall options program lent .answer ≡ Done n f
+      → Published (programWith options program) (take n (compileCall options program lent .lent)) f
   pub files : SameFile
   pub runs : (file : List ℕ) (starts : Sig) (words : Store) → starts 0 ≡ true → fileCheck file ≡ Accepted → OneRun (netOf file) starts words
   -- "each call keeps it true", from whatever state
@@ -148,3 +186,10 @@ pub record Demand2 : Type 0 where
   pub bounded : (file words : List ℕ) → Bytes file → Bytes words → fileCheck file ≡ Accepted
       → (starts : Sig) (W : Values) → Obeys (netOf file) starts (wordAt words) W
       → (k : ℕ) → k < length (cellsOf file) → (t : ℕ) → W k t < 65536
+  -- what calls answer
+  pub answers : (F : Format) (file words lent : List ℕ) (starts : Sig) (W : Values) → starts 0 ≡ true → fileCheck file ≡ Accepted
+      → stateSize F (netOf file) ≤ length lent → Obeys (netOf file) starts (wordAt words) W → Answers F file words lent starts W
+  -- "A full run of budget N is a beginning, and a continuing by N unless the finish was high."
+  pub fullRuns : (file words lent : List ℕ) (n : ℕ) → verdict (runNetlistCall file words n lent .answer .outcome) ≡ Accepted →
+      let begun = beginCall Full file words lent in
+      runNetlistCall file words n lent ≡ wholeOf (begun .answer .outcome) begun (continueCall Full file n (begun .lent))

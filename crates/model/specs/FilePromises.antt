@@ -1,12 +1,17 @@
--- What is promised of a block's running sum, as a type: a clause for each part of the paper's sentence.
+-- What is promised of a netlist file's blocks and of a block's running sum, as types: a clause for each part of the papers' sentences.
 -- "Keep each block's sum running as cells are put in, however it is done now".
 -- Assumes nothing: definitions.
 use mathlib.Core.Path.{_≡_}
 use mathlib.Core.List.{List, [], _∷_, _++_}
-use Prim.Native.Nat.{ℕ, _%_}
+use Prim.Native.Nat.{ℕ, _-_, _*_, _%_, _≤_, _<_}
 use Rattle.model.specs.declared.Cell.{Cell}
 use Rattle.model.specs.Word.{get16}
-use Rattle.model.specs.NetlistFile.{cellBytes, wordSum, headBytes, restBytes, sumWith, runningSum, checkFor, blockWith, block}
+use Rattle.model.specs.NetlistFile.{cellBytes, wordSum, headBytes, restBytes, sumWith, runningSum, checkFor, blockWith, block, blocksFor}
+
+-- "then 84 cells. No block is more than needed": n cells have room in so many blocks, and had none in one less
+pub record FewestBlocks (n : ℕ) : Type 0 where
+  pub room : n ≤ 84 * blocksFor n
+  pub needed : 1 ≤ n → 84 * (blocksFor n - 1) < n
 
 pub record RunningSum (number count finish : ℕ) : Type 0 where
   -- "after each cell": from the sum before it

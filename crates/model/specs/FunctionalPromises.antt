@@ -8,6 +8,7 @@ use mathlib.Core.Logic.{_↔_}
 use mathlib.Core.List.{List, [], _∷_, _++_, map}
 use Prim.Native.Nat.{ℕ, suc, _+_, _≤_}
 use lib.ListN.{length, take}
+use Rattle.model.specs.declared.Options.{Options}
 use Rattle.model.specs.declared.Cell.{Cell}
 use Rattle.model.specs.declared.Format.{Format}
 use Rattle.model.specs.declared.Checked.the-variants.{Accepted}
@@ -25,9 +26,9 @@ use Rattle.model.specs.Functional.{netlistOf}
 use Rattle.model.specs.Functional as circuit
 use Rattle.model.specs.TimeTables.{Given, load}
 use Rattle.model.specs.State.{flightOf, stateSize, nowAt, continued}
-use Rattle.model.specs.Calls.{Returned, verdict, writtenVerdict, wordAt, beginChecks, continueChecks, startChecks, runNetlistChecks, listed}
-use Rattle.model.specs.CircuitPromises.{Holds, NoStart}
-use Rattle.model.specs.RunPromises.{Request, continuing, start, Call, replayBy, seen, seenIn, seenOf, endedIf, lastOf, Stand, stand, Runs, dueAt, expected, stands, startsOf, Along, Unchanged}
+use Rattle.model.specs.Calls.{Returned, ReturnedBoth, overwrite, verdict, writtenVerdict, wordAt, beginChecks, continueChecks, startChecks, runNetlistChecks, listed}
+use Rattle.model.specs.CircuitPromises.{Holds, NoStart, endedIf, wholeOf}
+use Rattle.model.specs.RunPromises.{Request, continuing, start, Call, replayBy, seen, seenIn, seenOf, Stand, stand, Runs, dueAt, expected, stands, startsOf, Along, Unchanged}
 use Rattle.model.specs.RefusalPromises.{Refuses, tableNumbers, fileNumbers, longNumbers, just, Leaves, crowdNumbers, LeavesBut}
 use Rattle.model.specs.ProgramPromises.{endedAnswer, openAnswer}
 use Rattle.model.specs.FunctionalCalls.{checkFunctionalCall, statementOf, compileFunctionalChecks, compileFunctionalCall, referenceFunctionalChecks, referenceFunctionalCall, lastChecks, beginFunctionalCall, continueFunctionalCall, startFunctionalCall, runFunctionalCall, runFunctionalProgramChecks, runFunctionalProgramCall}
@@ -65,8 +66,8 @@ pub record FunctionalTells (F : Format) (P : Stmt) (σ : Store) (file : List ℕ
   -- and from then on the words are its last ones, in the buffer and in the answer of a call that was not refused
   pub words : (t₀ : ℕ) (σ′ : Store) → Ends functional P σ t₀ σ′ → st .begun + t₀ ≤ st .now
       → LastWords (cellsOf file) (nowAt F (r .lent)) σ′ × (verdict (r .answer .outcome) ≡ Accepted → r .answer .words ≡ listed σ′ 0 16)
-  -- where it has no end no answer says ended
-  pub endless : ((t₀ : ℕ) (σ′ : Store) → Ends functional P σ t₀ σ′ → ⊥) → r .answer .outcome ≡ Ended → ⊥
+  -- where it has no end up to now the answer doesn't say ended
+  pub endless : ((t₀ : ℕ) (σ′ : Store) → Ends functional P σ t₀ σ′ → st .begun + t₀ ≤ st .now → ⊥) → r .answer .outcome ≡ Ended → ⊥
 
 -- One statement about a beginning and a whole list of continuings and starts: P is the statement that the program means, σ its start words.
 pub record FunctionalKeeps (F : Format) (P : Stmt) (σ : Store) (file : List ℕ) (begun : Returned Answer) (calls : List Call) : Type 0 where
@@ -101,12 +102,12 @@ pub record FunctionalFile (P : Stmt) (file : List ℕ) (f : ℕ) : Type 0 where
 
 -- full runs, on a full state: "A full run answers as its last call does, its calls' counts added", and as a reference run does; the words of one that is open
 -- are those that its cells show
-pub record FunctionalRuns (P : Stmt) (σ : Store) (file : List ℕ) (begun : Returned Answer) (programRun whole : ℕ → Answer) : Type 0 where
-  pub alike : (n : ℕ) → n ≤ 1000000 → programRun n ≡ whole n
-  pub runs : (n : ℕ) → n ≤ 1000000
-      → whole n ≡ lastOf (begun .answer .outcome) (begun .answer) (continueFunctionalCall Full file n (begun .lent) .answer)
-  pub ends : (n t : ℕ) (σ′ : Store) → n ≤ 1000000 → Ends functional P σ t σ′ → t ≤ n → whole n ≡ endedAnswer t σ′
-  pub goesOn : (n : ℕ) → n ≤ 1000000 → ((t : ℕ) (σ′ : Store) → Ends functional P σ t σ′ → t ≤ n → ⊥) → seenIn (whole n) ≡ seen Open n (n + 1)
+pub record FunctionalRuns (P : Stmt) (σ : Store) (file forFile : List ℕ) (begun : Returned Answer) (programRun : ℕ → ReturnedBoth) (whole : ℕ → Returned Answer)
+    : Type 0 where
+  pub alike : (n : ℕ) → n ≤ 1000000 → programRun n ≡ record { answer = whole n .answer; netlist = overwrite file forFile; state = whole n .lent }
+  pub runs : (n : ℕ) → n ≤ 1000000 → whole n ≡ wholeOf (begun .answer .outcome) begun (continueFunctionalCall Full file n (begun .lent))
+  pub ends : (n t : ℕ) (σ′ : Store) → n ≤ 1000000 → Ends functional P σ t σ′ → t ≤ n → whole n .answer ≡ endedAnswer t σ′
+  pub goesOn : (n : ℕ) → n ≤ 1000000 → ((t : ℕ) (σ′ : Store) → Ends functional P σ t σ′ → t ≤ n → ⊥) → seenIn (whole n .answer) ≡ seen Open n (n + 1)
 
 -- Demand 1 of the calls of functional circuits: the refusals in the published order, and what a refusal leaves. A functional run has the file's
 -- refusals, then the rule of the last sixteen cells, then those of the run that it is.
@@ -149,26 +150,26 @@ pub record FunctionalRefusals : Type 0 where
       × Leaves c forFile (r .netlist) × Leaves c lent (r .state)
 
 pub record Functional : Type 0 where
-  pub compiled : (G : Given) (program forFile : List ℕ) (n f : ℕ) → Bytes program → compileFunctionalCall (load G) program forFile .answer ≡ Done n f
-      → FunctionalFile (statementOf program) (take n (compileFunctionalCall (load G) program forFile .lent)) f
-  pub lists : (F : Format) (G : Given) (program forFile words forState : List ℕ) (calls : List Call) (n f : ℕ)
-      → compileFunctionalCall (load G) program forFile .answer ≡ Done n f →
-      let file = take n (compileFunctionalCall (load G) program forFile .lent) in
+  pub compiled : (options : Options) (program forFile : List ℕ) (n f : ℕ) → Bytes program → compileFunctionalCall options program forFile .answer ≡ Done n f
+      → FunctionalFile (statementOf program) (take n (compileFunctionalCall options program forFile .lent)) f
+  pub lists : (F : Format) (options : Options) (program forFile words forState : List ℕ) (calls : List Call) (n f : ℕ)
+      → compileFunctionalCall options program forFile .answer ≡ Done n f →
+      let file = take n (compileFunctionalCall options program forFile .lent) in
       let begun = beginFunctionalCall F file words forState in
       Bytes file → Bytes words → verdict (begun .answer .outcome) ≡ Accepted
       → FunctionalKeeps F (statementOf program) (wordAt words) file begun calls
-  pub fullRuns : (G : Given) (program forFile words forState : List ℕ) (n f : ℕ)
-      → compileFunctionalCall (load G) program forFile .answer ≡ Done n f →
-      let file = take n (compileFunctionalCall (load G) program forFile .lent) in
+  pub fullRuns : (options : Options) (program forFile words forState : List ℕ) (n f : ℕ)
+      → compileFunctionalCall options program forFile .answer ≡ Done n f →
+      let file = take n (compileFunctionalCall options program forFile .lent) in
       let begun = beginFunctionalCall Full file words forState in
       Bytes file → Bytes words → verdict (begun .answer .outcome) ≡ Accepted
-      → FunctionalRuns (statementOf program) (wordAt words) file begun
-      (λ k. runFunctionalProgramCall (load G) program words k forFile forState .answer) (λ k. runFunctionalCall file words k forState .answer)
+      → FunctionalRuns (statementOf program) (wordAt words) file forFile begun
+      (λ k. runFunctionalProgramCall options program words k forFile forState) (λ k. runFunctionalCall file words k forState)
   -- the reference run answers an end within its budget, and no other
-  pub ends : (G : Given) (program words : List ℕ) (n t : ℕ) (σ′ : Store) → verdict (referenceFunctionalCall (load G) program words n .outcome) ≡ Accepted
-      → Ends functional (statementOf program) (wordAt words) t σ′ → t ≤ n → referenceFunctionalCall (load G) program words n ≡ endedAnswer t σ′
-  pub ended : (G : Given) (program words : List ℕ) (n : ℕ) → referenceFunctionalCall (load G) program words n .outcome ≡ Ended
+  pub ends : (options : Options) (program words : List ℕ) (n t : ℕ) (σ′ : Store) → verdict (referenceFunctionalCall options program words n .outcome) ≡ Accepted
+      → Ends functional (statementOf program) (wordAt words) t σ′ → t ≤ n → referenceFunctionalCall options program words n ≡ endedAnswer t σ′
+  pub ended : (options : Options) (program words : List ℕ) (n : ℕ) → referenceFunctionalCall options program words n .outcome ≡ Ended
       → (t : ℕ) × (σ′ : Store) × (t ≤ n) × Ends functional (statementOf program) (wordAt words) t σ′
-  pub stillOpen : (G : Given) (program words : List ℕ) (n : ℕ) → referenceFunctionalCall (load G) program words n .outcome ≡ Open
-      → (referenceFunctionalCall (load G) program words n ≡ openAnswer n)
+  pub stillOpen : (options : Options) (program words : List ℕ) (n : ℕ) → referenceFunctionalCall options program words n .outcome ≡ Open
+      → (referenceFunctionalCall options program words n ≡ openAnswer n)
       × ((t : ℕ) (σ′ : Store) → Ends functional (statementOf program) (wordAt words) t σ′ → t ≤ n → ⊥)

@@ -1,13 +1,13 @@
 -- Netlists written out by hand from the papers' text, each with its finish: rows of one table, and one theorem that the numbering gives them.
 -- Every kind of statement, an if with delay 0, a variable with three assignments, two variables with ors, complement;
 -- an array with two element assignments; loops with two exits, with one and with none; a procedure with two callers, one with one and one that is
--- never called.
+-- never called. The last two are there for orders that no theorem sees, since an or is commutative: then and else, roots, variables and arrays.
 -- Assumes nothing.
 use mathlib.Core.Path.{_≡_, refl}
 use mathlib.Core.List.{List, [], _∷_, map}
 use Prim.Native.Nat.{ℕ, zero, suc, _+_}
 use Rattle.model.specs.declared.Cell.{Cell}
-use Rattle.model.specs.Program.{const, var, compl, op, elem, Program, alone, ok, tick, assign, assignElem, seq, par, ite, while, repeat, loop, exit, call}
+use Rattle.model.specs.Program.{const, var, compl, op, elem, Code, Program, alone, ok, tick, assign, assignElem, seq, par, ite, while, repeat, loop, exit, call}
 use Rattle.model.specs.Circuit.{cell}
 use Rattle.model.specs.Numbering.{netlist, finish, memoryWires, exprCount, exprWire, exprCells, ifDelayCount, ifPulse, ifDelayCells, delayCount, exitCount, walkCount, finishWire, exitWires, delays, walk, clockSources, dataSources, addressSources, callSources, wiresOf, orChain, orChainOut, ors, orsOut, orCount, orsFrom, outsFrom, orCountFrom, memoriesOf, arraysOf, rootDelayCount, rootWalkCount, rootFinishes, rootDelays, rootWalks, rootSources, rootWalkSources, finishOfRoot}
 
@@ -259,8 +259,89 @@ procedures =
       end = 39;
     }
 
+-- The branches of an if assign the same variable, call the same procedure and exit from the same loop; what is joined comes in node order, the then
+-- first. Procedure 0 is ok; loop (d 3) if x0 (d 1) then { x0 := 1; call 0 (d 1); exit } else { x0 := 2; call 0 (d 2); exit }, assignments with d 1.
+-- Delays: 3 of the loop, fed by the if's finish 46; 4 of the if, fed by 37; 5 6 and 7 of the then, 8 9 and 10 of the else. Clock or 11 = 5|8.
+-- Memories 12 to 27. Arrays 28 to 35. Walk: procedure 0: 36 the 35 of its callers' delays 7 and 10, its start and finish. Main: 37 the 35 of the start
+-- and 3; 38 the 36 of 4 and x0 (12), 39 the 37; 40 constant 1, 41 the 41 on 5, 42 the 39 of 7 and 36, the first exit's start; 43 constant 2, 44 the 41
+-- on 8, 45 the 39 of 10 and 36, the second exit's start; 46 the 35 of ground and ground; 47 the 35 of the exits' starts 42 and 45, the finish.
+-- Data or 48 = 41|44.
+branches : Drawn
+branches =
+    record {
+      program = record {
+        bodies = ok ∷ [];
+        main = loop 3 (ite 1 (var 0) (seq (assign 1 0 (const 1)) (seq (call 1 0) exit)) (seq (assign 1 0 (const 2)) (seq (call 2 0) exit)));
+        pulse = 1;
+      };
+      cells =
+          front
+          (cell 34 3 46 0 ∷ cell 34 1 37 0
+          ∷ cell 34 1 38 0 ∷ cell 34 1 5 0 ∷ cell 34 1 6 0
+          ∷ cell 34 1 39 0 ∷ cell 34 1 8 0 ∷ cell 34 2 9 0
+          ∷ cell 35 0 5 8
+          ∷ cell 40 0 11 48 ∷ idle 15
+          (arrays (cell 35 0 7 10
+          ∷ cell 35 0 0 3 ∷ cell 36 0 4 12 ∷ cell 37 0 4 12
+          ∷ cell 1 0 1 0 ∷ cell 41 0 5 40 ∷ cell 39 0 7 36
+          ∷ cell 1 0 2 0 ∷ cell 41 0 8 43 ∷ cell 39 0 10 36
+          ∷ cell 35 0 1 1 ∷ cell 35 0 42 45
+          ∷ cell 7 0 41 44 ∷ [])));
+      end = 47;
+    }
+
+-- x0, a1 and a2 assigned twice by a body and twice by the main program, in this order, with d 1 and constants that count on from 1; before it the main
+-- program calls the body (d 1). Sources come root by root; clock ors by variable and then by array, all data ors before all address ors.
+-- Delays: 3 to 14 of the body, fed by the caller's delay 15; 16 to 27 of the main program, fed by the call's 39, 81. Clock ors: 28 = 3|5, 29 = 28|16,
+-- 30 = 29|18 (x0); 31 = 7|9, 32 = 31|20, 33 = 32|22 (a1); 34 = 11|13, 35 = 34|24, 36 = 35|26 (a2). Memories 37 to 52. Arrays 53 to 60.
+-- Walk: 61 to 80 the body, 81 the 39 of 15 and 14, the body's finish, 82 to 101 the rest: constants with their 41s; of an element index, value, the 41 of
+-- the value, that of the index. Data ors: 102 = 62|64, 103 = 102|83, 104 = 103|85 (x0); 105 = 67|71, 106 = 105|88, 107 = 106|92 (a1); 108 = 75|79,
+-- 109 = 108|96, 110 = 109|100 (a2). Address ors: 111 = 68|72, 112 = 111|89, 113 = 112|93 (a1); 114 = 76|80, 115 = 114|97, 116 = 115|101 (a2).
+abbrev assigning : ℕ → Code
+assigning n =
+    seq (assign 1 0 (const n))
+    (seq (assign 1 0 (const (n + 1)))
+    (seq (assignElem 1 1 (const (n + 2)) (const (n + 3)))
+    (seq (assignElem 1 1 (const (n + 4)) (const (n + 5)))
+    (seq (assignElem 1 2 (const (n + 6)) (const (n + 7))) (assignElem 1 2 (const (n + 8)) (const (n + 9)))))))
+
+roots : Drawn
+roots =
+    record {
+      program = record { bodies = assigning 1 ∷ []; main = seq (call 1 0) (assigning 11); pulse = 1 };
+      cells =
+          front
+          (cell 34 1 15 0 ∷ cell 34 1 3 0 ∷ cell 34 1 4 0 ∷ cell 34 1 5 0 ∷ cell 34 1 6 0 ∷ cell 34 1 7 0
+          ∷ cell 34 1 8 0 ∷ cell 34 1 9 0 ∷ cell 34 1 10 0 ∷ cell 34 1 11 0 ∷ cell 34 1 12 0 ∷ cell 34 1 13 0
+          ∷ cell 34 1 0 0
+          ∷ cell 34 1 81 0 ∷ cell 34 1 16 0 ∷ cell 34 1 17 0 ∷ cell 34 1 18 0 ∷ cell 34 1 19 0 ∷ cell 34 1 20 0
+          ∷ cell 34 1 21 0 ∷ cell 34 1 22 0 ∷ cell 34 1 23 0 ∷ cell 34 1 24 0 ∷ cell 34 1 25 0 ∷ cell 34 1 26 0
+          ∷ cell 35 0 3 5 ∷ cell 35 0 28 16 ∷ cell 35 0 29 18
+          ∷ cell 35 0 7 9 ∷ cell 35 0 31 20 ∷ cell 35 0 32 22
+          ∷ cell 35 0 11 13 ∷ cell 35 0 34 24 ∷ cell 35 0 35 26
+          ∷ cell 40 0 30 104 ∷ idle 15
+          (idleArrays 0 1 (array 1 33 107 113 (array 2 36 110 116 (idleArrays 3 1
+          (cell 1 0 1 0 ∷ cell 41 0 3 61 ∷ cell 1 0 2 0 ∷ cell 41 0 5 63
+          ∷ cell 1 0 3 0 ∷ cell 1 0 4 0 ∷ cell 41 0 7 66 ∷ cell 41 0 7 65
+          ∷ cell 1 0 5 0 ∷ cell 1 0 6 0 ∷ cell 41 0 9 70 ∷ cell 41 0 9 69
+          ∷ cell 1 0 7 0 ∷ cell 1 0 8 0 ∷ cell 41 0 11 74 ∷ cell 41 0 11 73
+          ∷ cell 1 0 9 0 ∷ cell 1 0 10 0 ∷ cell 41 0 13 78 ∷ cell 41 0 13 77
+          ∷ cell 39 0 15 14
+          ∷ cell 1 0 11 0 ∷ cell 41 0 16 82 ∷ cell 1 0 12 0 ∷ cell 41 0 18 84
+          ∷ cell 1 0 13 0 ∷ cell 1 0 14 0 ∷ cell 41 0 20 87 ∷ cell 41 0 20 86
+          ∷ cell 1 0 15 0 ∷ cell 1 0 16 0 ∷ cell 41 0 22 91 ∷ cell 41 0 22 90
+          ∷ cell 1 0 17 0 ∷ cell 1 0 18 0 ∷ cell 41 0 24 95 ∷ cell 41 0 24 94
+          ∷ cell 1 0 19 0 ∷ cell 1 0 20 0 ∷ cell 41 0 26 99 ∷ cell 41 0 26 98
+          ∷ cell 7 0 62 64 ∷ cell 7 0 102 83 ∷ cell 7 0 103 85
+          ∷ cell 7 0 67 71 ∷ cell 7 0 105 88 ∷ cell 7 0 106 92
+          ∷ cell 7 0 75 79 ∷ cell 7 0 108 96 ∷ cell 7 0 109 100
+          ∷ cell 7 0 68 72 ∷ cell 7 0 111 89 ∷ cell 7 0 112 93
+          ∷ cell 7 0 76 80 ∷ cell 7 0 114 97 ∷ cell 7 0 115 101 ∷ []))))));
+      end = 27;
+    }
+
 drawings : List Drawn
-drawings = case1 ∷ case2 ∷ case3 ∷ case4 ∷ case6 ∷ case7 ∷ case8 ∷ case12 ∷ mixed ∷ elements ∷ polling ∷ endless ∷ procedures ∷ []
+drawings = case1 ∷ case2 ∷ case3 ∷ case4 ∷ case6 ∷ case7 ∷ case8 ∷ case12 ∷ mixed ∷ elements ∷ polling ∷ endless ∷ procedures ∷ branches ∷ roots ∷ []
 
 abbrev given : Drawn → List Cell × ℕ
 given d = (netlist (d .program), finish (d .program))
@@ -269,5 +350,5 @@ abbrev drawing : Drawn → List Cell × ℕ
 drawing d = (d .cells, d .end)
 
 drawings-right : map given drawings ≡ map drawing drawings
-unfolding drawings case1 case2 case3 case4 case6 case7 case8 case12 mixed elements polling endless procedures numbering
+unfolding drawings case1 case2 case3 case4 case6 case7 case8 case12 mixed elements polling endless procedures branches roots numbering
 drawings-right = refl

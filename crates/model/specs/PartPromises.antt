@@ -15,19 +15,12 @@ use Rattle.model.specs.Word.{Bytes}
 use Rattle.model.specs.Refusals.{first}
 use Rattle.model.specs.Program.{Code, ok, seq, Program, nodeCount, programOf}
 use Rattle.model.specs.Procedures.{meaning}
-use Rattle.model.specs.TimeTables.{Given, beside, load}
+use Rattle.model.specs.TimeTables.{Given, load}
 use Rattle.model.specs.Calls.{verdict, writtenVerdict, checkCall, compiledFile, compileCall, wordAt, beginCall, runNetlistCall, runProgramCall}
 use Rattle.model.specs.RefusalPromises.{tableNumbers, givenNumbers, programNumbers, fileNumbers, just, Refuses, Leaves}
 use Rattle.model.specs.CircuitPromises.{Published}
 use Rattle.model.specs.RunPromises.{Call, Keeps, FullRuns}
-use Rattle.model.specs.PartCalls.{Part, partAt, wholeProgram, partChecks, joinChecks, joinCall}
-
--- "under one table and without procedures": what is given beside a part, where G is given, and beside the whole
-abbrev pub givenPart : Given → Part → Given
-givenPart G p = beside (G .table) 0 (p .pulse)
-
-abbrev pub givenWhole : Given → List Part → Given
-givenWhole G ps = givenPart G (partAt ps 0)
+use Rattle.model.specs.PartCalls.{Part, partAt, wholeProgram, besidePart, besideWhole, partChecks, joinChecks, joinCall}
 
 -- the statement of a part, and of the whole: "grouped to the right"
 abbrev pub partStatement : Part → Code
@@ -48,12 +41,12 @@ EachPart R [] = Unit {0}
 EachPart R (p ∷ ps) = R p × EachPart R ps
 
 -- parts that were "compiled one by one", "two to eight" of them, of one pulse length, and their sequence has at most 200 nodes
-pub record Joinable (G : Given) (ps : List Part) : Type 0 where
+pub record Joinable (options : Options) (ps : List Part) : Type 0 where
   pub number : (2 ≤ length ps) × (length ps ≤ 8)
   pub compiled :
       EachPart
       (λ p.
-      (checkCall (load (givenPart G p)) (p .program) ≡ Accepted) × (p .file ≡ compiledFile (load (givenPart G p)) (p .program)))
+      (checkCall (besidePart options p) (p .program) ≡ Accepted) × (p .file ≡ compiledFile (besidePart options p) (p .program)))
       ps
   pub pulses : EachPart (λ p. p .pulse ≡ partAt ps 0 .pulse) ps
   pub nodes : nodeCount (wholeProgram ps) ≤ 200
@@ -70,24 +63,24 @@ pub record Joins : Type 0 where
       Refuses (ownNumbers ps ++ (just 29 ∷ just 29 ∷ just 30 ∷ just 31 ∷ just 14 ∷ [])) (joinChecks (load G) ps lent) c
       × Leaves c lent (joinCall (load G) ps lent .lent)
   -- parts that may be joined, and no others, are refused by nothing but 14
-  pub accepts : (G : Given) (ps : List Part) → EachPart (λ p. Bytes (p .program)) ps → (first (partChecks (load G) ps) ≡ Accepted) ↔ Joinable G ps
+  pub accepts : (options : Options) (ps : List Part) → EachPart (λ p. Bytes (p .program)) ps → (first (partChecks options ps) ≡ Accepted) ↔ Joinable options ps
   -- they make a program that is accepted, and it is their sequence
-  pub wholes : (G : Given) (ps : List Part) → first (partChecks (load G) ps) ≡ Accepted
-      → (checkCall (load (givenWhole G ps)) (wholeProgram ps) ≡ Accepted) × (programOf (partAt ps 0 .pulse) 0 (wholeProgram ps) ≡ joinedProgram ps)
+  pub wholes : (options : Options) (ps : List Part) → first (partChecks options ps) ≡ Accepted
+      → (checkCall (besideWhole options ps) (wholeProgram ps) ≡ Accepted) × (programOf (partAt ps 0 .pulse) 0 (wholeProgram ps) ≡ joinedProgram ps)
   -- "The file is byte for byte that of the whole sequence": answer and lent bytes are those of compiling it, 14 included
-  pub files : (G : Given) (ps : List Part) (lent : List ℕ) → first (partChecks (load G) ps) ≡ Accepted
-      → joinCall (load G) ps lent ≡ compileCall (load (givenWhole G ps)) (wholeProgram ps) lent
+  pub files : (options : Options) (ps : List Part) (lent : List ℕ) → first (partChecks options ps) ≡ Accepted
+      → joinCall options ps lent ≡ compileCall (besideWhole options ps) (wholeProgram ps) lent
   -- so demands 2 and 3 hold of what was joined
-  pub published : (G : Given) (ps : List Part) (lent : List ℕ) (n f : ℕ) → EachPart (λ p. Bytes (p .program)) ps
-      → joinCall (load G) ps lent .answer ≡ Done n f → Published (joinedProgram ps) (take n (joinCall (load G) ps lent .lent)) f
-  pub lists : (F : Format) (G : Given) (ps : List Part) (forFile words forState : List ℕ) (calls : List Call) (n f : ℕ)
-      → joinCall (load G) ps forFile .answer ≡ Done n f →
-      let file = take n (joinCall (load G) ps forFile .lent) in
+  pub published : (options : Options) (ps : List Part) (lent : List ℕ) (n f : ℕ) → EachPart (λ p. Bytes (p .program)) ps
+      → joinCall options ps lent .answer ≡ Done n f → Published (joinedProgram ps) (take n (joinCall options ps lent .lent)) f
+  pub lists : (F : Format) (options : Options) (ps : List Part) (forFile words forState : List ℕ) (calls : List Call) (n f : ℕ)
+      → joinCall options ps forFile .answer ≡ Done n f →
+      let file = take n (joinCall options ps forFile .lent) in
       let begun = beginCall F file words forState in
       verdict (begun .answer .outcome) ≡ Accepted → Keeps F (partAt ps 0 .pulse) (meaning (joinedProgram ps)) (wordAt words) file begun calls
-  pub fullRuns : (G : Given) (ps : List Part) (forFile words forState : List ℕ) (n f : ℕ) → joinCall (load G) ps forFile .answer ≡ Done n f →
-      let file = take n (joinCall (load G) ps forFile .lent) in
+  pub fullRuns : (options : Options) (ps : List Part) (forFile words forState : List ℕ) (n f : ℕ) → joinCall options ps forFile .answer ≡ Done n f →
+      let file = take n (joinCall options ps forFile .lent) in
       let begun = beginCall Full file words forState in
       verdict (begun .answer .outcome) ≡ Accepted
-      → FullRuns file begun (λ k. runProgramCall (load (givenWhole G ps)) (wholeProgram ps) words k forFile forState .answer)
-      (λ k. runNetlistCall file words k forState .answer)
+      → FullRuns file forFile begun (λ k. runProgramCall (besideWhole options ps) (wholeProgram ps) words k forFile forState)
+      (λ k. runNetlistCall file words k forState)

@@ -6,14 +6,15 @@ use mathlib.Core.Logic.{_↔_}
 use mathlib.Core.List.{List}
 use Prim.Native.Nat.{ℕ, _+_, _≤_}
 use lib.ListN.{replicate}
+use Rattle.model.specs.declared.Options.{Options}
 use Rattle.model.specs.declared.Checked.the-variants.{Accepted}
 use Rattle.model.specs.declared.Outcome.the-variants.{Ended, Open}
 use Rattle.model.specs.declared.Answer.{Answer}
-use Rattle.model.specs.Program.{nodesAt, programOf, roots, preorders}
+use Rattle.model.specs.Program.{nodesAt, roots, preorders}
+use Rattle.model.specs.ProgramChecks.{programWith}
 use Rattle.model.specs.Procedures.{meaning}
 use Rattle.model.specs.Calling.{EndsIn, Obeying}
 use Rattle.model.specs.Rules.{imperative, Store, Course, Ends, Leaves}
-use Rattle.model.specs.TimeTables.{Given, load}
 use Rattle.model.specs.Calls.{verdict, checkCall, runProgramCall, wordAt, listed, referenceCall}
 use Rattle.model.specs.Word.{Bytes}
 use Rattle.model.specs.RunPromises.{seenIn}
@@ -27,28 +28,28 @@ openAnswer n = record { outcome = Open; instant = n; count = n + 1; words = repl
 
 pub record Programs : Type 1 where
   -- "Each node is followed by its children in the order named; node 0 is the root": an accepted program's nodes are those of its tree
-  pub tree : (G : Given) (program : List ℕ) → checkCall (load G) program ≡ Accepted → nodesAt program 0 ≡ preorders (roots (programOf (G .pulse) (G .procedures) program))
+  pub tree : (options : Options) (program : List ℕ) → checkCall options program ≡ Accepted → nodesAt program 0 ≡ preorders (roots (programWith options program))
   -- "The program's end is the instant at which its root ends": the reference run answers an end within its budget
-  pub ends : (G : Given) (program words : List ℕ) (n t : ℕ) (σ′ : Store) → verdict (referenceCall (load G) program words n .outcome) ≡ Accepted
-      → Ends (imperative (G .pulse)) (meaning (programOf (G .pulse) (G .procedures) program)) (wordAt words) t σ′ → t ≤ n → referenceCall (load G) program words n ≡ endedAnswer t σ′
+  pub ends : (options : Options) (program words : List ℕ) (n t : ℕ) (σ′ : Store) → verdict (referenceCall options program words n .outcome) ≡ Accepted
+      → Ends (imperative (options .pulse)) (meaning (programWith options program)) (wordAt words) t σ′ → t ≤ n → referenceCall options program words n ≡ endedAnswer t σ′
   -- and no other: what it answers is an end, or there is none within the budget
-  pub ended : (G : Given) (program words : List ℕ) (n : ℕ) → referenceCall (load G) program words n .outcome ≡ Ended
-      → (t : ℕ) × (σ′ : Store) × (t ≤ n) × Ends (imperative (G .pulse)) (meaning (programOf (G .pulse) (G .procedures) program)) (wordAt words) t σ′
-  pub stillOpen : (G : Given) (program words : List ℕ) (n : ℕ) → referenceCall (load G) program words n .outcome ≡ Open
-      → (referenceCall (load G) program words n ≡ openAnswer n)
-      × ((t : ℕ) (σ′ : Store) → Ends (imperative (G .pulse)) (meaning (programOf (G .pulse) (G .procedures) program)) (wordAt words) t σ′ → t ≤ n → ⊥)
+  pub ended : (options : Options) (program words : List ℕ) (n : ℕ) → referenceCall options program words n .outcome ≡ Ended
+      → (t : ℕ) × (σ′ : Store) × (t ≤ n) × Ends (imperative (options .pulse)) (meaning (programWith options program)) (wordAt words) t σ′
+  pub stillOpen : (options : Options) (program words : List ℕ) (n : ℕ) → referenceCall options program words n .outcome ≡ Open
+      → (referenceCall options program words n ≡ openAnswer n)
+      × ((t : ℕ) (σ′ : Store) → Ends (imperative (options .pulse)) (meaning (programWith options program)) (wordAt words) t σ′ → t ≤ n → ⊥)
   -- "Its rule: the delay, then the body.", and of an assignment "it takes d + w": there is a table of the bodies' ends that obeys the rules with calls
-  pub obeyed : (G : Given) (program : List ℕ) → checkCall (load G) program ≡ Accepted
-      → (C : ℕ → Course) × Obeying (imperative (G .pulse)) (programOf (G .pulse) (G .procedures) program .bodies) C
+  pub obeyed : (options : Options) (program : List ℕ) → checkCall options program ≡ Accepted
+      → (C : ℕ → Course) × Obeying (imperative (options .pulse)) (programWith options program .bodies) C
   -- and with any such table they say of the main program what the rules say of the statement without calls
-  pub calling : (G : Given) (program : List ℕ) → checkCall (load G) program ≡ Accepted →
-      let S = programOf (G .pulse) (G .procedures) program in
-      (C : ℕ → Course) → Obeying (imperative (G .pulse)) (S .bodies) C → (σ : Store) (t : ℕ) (σ′ : Store) → EndsIn (imperative (G .pulse)) (S .bodies) C (S .main) σ t σ′ ↔ Ends (imperative (G .pulse)) (meaning S) σ t σ′
+  pub calling : (options : Options) (program : List ℕ) → checkCall options program ≡ Accepted →
+      let S = programWith options program in
+      (C : ℕ → Course) → Obeying (imperative (options .pulse)) (S .bodies) C → (σ : Store) (t : ℕ) (σ′ : Store) → EndsIn (imperative (options .pulse)) (S .bodies) C (S .main) σ t σ′ ↔ Ends (imperative (options .pulse)) (meaning S) σ t σ′
   -- refusal 22: it never comes to an exit that ends no loop of its own
-  pub neverLeft : (G : Given) (program : List ℕ) → checkCall (load G) program ≡ Accepted
-      → (σ : Store) (t : ℕ) (σ′ : Store) → Leaves (imperative (G .pulse)) (meaning (programOf (G .pulse) (G .procedures) program)) σ t σ′ → ⊥
+  pub neverLeft : (options : Options) (program : List ℕ) → checkCall options program ≡ Accepted
+      → (σ : Store) (t : ℕ) (σ′ : Store) → Leaves (imperative (options .pulse)) (meaning (programWith options program)) σ t σ′ → ⊥
   -- a full run that is not refused answers what the reference run does; the words of one that is open are the memories'
-  pub agree : (G : Given) (program words : List ℕ) (n : ℕ) (forFile lent : List ℕ) → Bytes program →
-      let full = runProgramCall (load G) program words n forFile lent .answer in
-      let reference = referenceCall (load G) program words n in
+  pub agree : (options : Options) (program words : List ℕ) (n : ℕ) (forFile lent : List ℕ) → Bytes program →
+      let full = runProgramCall options program words n forFile lent .answer in
+      let reference = referenceCall options program words n in
       verdict (full .outcome) ≡ Accepted → (seenIn full ≡ seenIn reference) × (full .outcome ≡ Ended → full ≡ reference)

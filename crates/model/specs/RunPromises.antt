@@ -11,22 +11,23 @@ use lib.ListN.{take, drop}
 use Rattle.model.specs.declared.Cell.{Cell}
 use Rattle.model.specs.declared.Format.{Format}
 use Rattle.model.specs.declared.Format.the-variants.{Full}
+use Rattle.model.specs.declared.Options.{Options}
 use Rattle.model.specs.declared.Checked.the-variants.{Accepted}
 use Rattle.model.specs.declared.Outcome.{Outcome}
-use Rattle.model.specs.declared.Outcome.the-variants.{Ended, Open}
+use Rattle.model.specs.declared.Outcome.the-variants.{Ended}
 use Rattle.model.specs.declared.Written.the-variants.{Done}
 use Rattle.model.specs.declared.Answer.{Answer}
-use Rattle.model.specs.Word.{pick, elementWord}
-use Rattle.model.specs.Program.{Stmt, programOf, gap}
+use Rattle.model.specs.Word.{elementWord}
+use Rattle.model.specs.Program.{Stmt, gap}
+use Rattle.model.specs.ProgramChecks.{programWith}
 use Rattle.model.specs.Procedures.{meaning}
 use Rattle.model.specs.Rules.{imperative, Store, Ends, Run, atEnd, atExit, done, still, ended, showsAt}
 use Rattle.model.specs.Circuit.{memoryWords, Sig, Values, level, element, arrayAt, Obeys}
 use Rattle.model.specs.NetlistFile.{cellsOf, netOf, finishOf}
-use Rattle.model.specs.TimeTables.{Given, load}
 use Rattle.model.specs.State.{flightOf, stateSize, elementNow, wordsIn}
-use Rattle.model.specs.Calls.{Returned, verdict, compileCall, wordAt, beginCall, continueCall, startCall, runNetlistCall, runProgramCall, listed}
+use Rattle.model.specs.Calls.{Returned, ReturnedBoth, verdict, overwrite, compileCall, wordAt, beginCall, continueCall, startCall, runNetlistCall, runProgramCall, listed}
 use Rattle.model.specs.RefusalPromises.{Leaves}
-use Rattle.model.specs.CircuitPromises.{Holds, stopsAt, NoStart}
+use Rattle.model.specs.CircuitPromises.{Holds, stopsAt, NoStart, endedIf, wholeOf}
 
 -- "each call is a continuing by any N", or a start, given "by a call of its own"
 pub data Request : Type 0 where
@@ -72,10 +73,6 @@ seenOf r = seenIn (r .answer)
 -- "a refused one evaluates and changes nothing"
 abbrev pub refusedSeen : ℕ → Seen
 refusedSeen k = seen (Outcome.Refused (record { number = k; place = 0 })) 0 0
-
--- "ended exactly when a finish is due"
-abbrev pub endedIf : Bool → Outcome
-endedIf b = pick b Ended Open
 
 -- where a list of calls stands: the last start pulse came at instant begun, the program has run from the words `from` since then, and the state is at
 -- instant now
@@ -186,10 +183,13 @@ pub record Behaves (F : Format) (w : ℕ) (P : Stmt) (σ : Store) (file : List �
   -- from then on the words are its last ones
   pub lasts : (t₀ : ℕ) (σ′ : Store) → Ends (imperative w) P (st .from) t₀ σ′ → (t : ℕ) → st .begun + t₀ ≤ t → NoStart starts (st .begun) t
       → HasWords (cellsOf file) σ W t σ′
-  -- where the run has no end nobody sees a finish any more
-  pub endless : ((t₀ : ℕ) (σ′ : Store) → Ends (imperative w) P (st .from) t₀ σ′ → ⊥) → (t : ℕ) → st .begun ≤ t → level W (finishOf file) t ≡ false
+  -- where the run has no end up to an instant, nobody has seen a finish of it by then
+  pub endless : (t : ℕ) → st .begun ≤ t → ((t₀ : ℕ) (σ′ : Store) → Ends (imperative w) P (st .from) t₀ σ′ → st .begun + t₀ ≤ t → ⊥)
+      → level W (finishOf file) t ≡ false
   -- the buffer holds the values of the instant at which it stands
   pub buffer : Holds F (netOf file) σ W (st .now) (r .lent)
+  -- "The words at an instant, as an answer shows them, are the memories'", before the end too
+  pub answered : verdict (r .answer .outcome) ≡ Accepted → r .answer .words ≡ memoryWords (cellsOf file) 0 (λ k. W k (st .now))
 
 -- what a call's answer and the buffer tell of the run
 pub record Tells (F : Format) (w : ℕ) (P : Stmt) (file : List ℕ) (st : Stand) (r : Returned Answer) : Type 0 where
@@ -202,8 +202,8 @@ pub record Tells (F : Format) (w : ℕ) (P : Stmt) (file : List ℕ) (st : Stand
   -- and from then on the words are its last ones, in the buffer and in the answer of a call that was not refused
   pub words : (t₀ : ℕ) (σ′ : Store) → Ends (imperative w) P (st .from) t₀ σ′ → st .begun + t₀ ≤ st .now
       → ShowsWords F file (r .lent) σ′ × (verdict (r .answer .outcome) ≡ Accepted → r .answer .words ≡ listed σ′ 0 16)
-  -- where it has no end no answer says ended
-  pub endless : ((t₀ : ℕ) (σ′ : Store) → Ends (imperative w) P (st .from) t₀ σ′ → ⊥) → r .answer .outcome ≡ Ended → ⊥
+  -- where it has no end up to now the answer doesn't say ended
+  pub endless : ((t₀ : ℕ) (σ′ : Store) → Ends (imperative w) P (st .from) t₀ σ′ → st .begun + t₀ ≤ st .now → ⊥) → r .answer .outcome ≡ Ended → ⊥
 
 -- where a call was refused, the buffer is as it was before
 abbrev pub Unchanged : List ℕ → List (Returned Answer) → Type 0
@@ -238,30 +238,23 @@ pub record Keeps (F : Format) (w : ℕ) (P : Stmt) (σ : Store) (file : List ℕ
   -- a refused call leaves the buffer as it was
   pub unchanged : Unchanged (begun .lent) (replay F file (begun .lent) calls)
 
--- "A full run answers as its last call does, its calls' counts added.": from the answers of a beginning and a continuing
-unfoldable pub lastOf : Outcome → Answer → Answer → Answer
-lastOf Ended begun on = begun
-lastOf Open begun on =
-    record { outcome = on .outcome; instant = on .instant; count = begun .count + on .count; words = on .words }
-lastOf (Outcome.Refused r) begun on = begun
-
--- the full runs of budget n of a program and of its netlist, which have this list for their state
-pub record FullRuns (file : List ℕ) (begun : Returned Answer) (programRun netlistRun : ℕ → Answer) : Type 0 where
-  pub programRuns : (n : ℕ) → n ≤ 1000000
-      → programRun n ≡ lastOf (begun .answer .outcome) (begun .answer) (continueCall Full file n (begun .lent) .answer)
-  pub netlistRuns : (n : ℕ) → n ≤ 1000000
-      → netlistRun n ≡ lastOf (begun .answer .outcome) (begun .answer) (continueCall Full file n (begun .lent) .answer)
+-- the full runs of budget n of a program and of its netlist, which have this list for their state: what they answer, and what they leave in each buffer
+pub record FullRuns (file forFile : List ℕ) (begun : Returned Answer) (programRun : ℕ → ReturnedBoth) (netlistRun : ℕ → Returned Answer) : Type 0 where
+  pub programRuns : (n : ℕ) → n ≤ 1000000 →
+      let whole = wholeOf (begun .answer .outcome) begun (continueCall Full file n (begun .lent)) in
+      programRun n ≡ record { answer = whole .answer; netlist = overwrite file forFile; state = whole .lent }
+  pub netlistRuns : (n : ℕ) → n ≤ 1000000 → netlistRun n ≡ wholeOf (begun .answer .outcome) begun (continueCall Full file n (begun .lent))
 
 -- "A program is accepted when compiling gives its netlist. The list starts from the state that an unrefused beginning wrote for that netlist
 -- and the start words", a full or a compact one. "Under every table that loads, finish and last words are the program's."
 pub record Demand3 : Type 0 where
-  pub lists : (F : Format) (G : Given) (program forFile words forState : List ℕ) (calls : List Call) (n f : ℕ)
-      → compileCall (load G) program forFile .answer ≡ Done n f →
-      let file = take n (compileCall (load G) program forFile .lent) in
+  pub lists : (F : Format) (options : Options) (program forFile words forState : List ℕ) (calls : List Call) (n f : ℕ)
+      → compileCall options program forFile .answer ≡ Done n f →
+      let file = take n (compileCall options program forFile .lent) in
       let begun = beginCall F file words forState in
-      verdict (begun .answer .outcome) ≡ Accepted → Keeps F (G .pulse) (meaning (programOf (G .pulse) (G .procedures) program)) (wordAt words) file begun calls
-  pub fullRuns : (G : Given) (program forFile words forState : List ℕ) (n f : ℕ) → compileCall (load G) program forFile .answer ≡ Done n f →
-      let file = take n (compileCall (load G) program forFile .lent) in
+      verdict (begun .answer .outcome) ≡ Accepted → Keeps F (options .pulse) (meaning (programWith options program)) (wordAt words) file begun calls
+  pub fullRuns : (options : Options) (program forFile words forState : List ℕ) (n f : ℕ) → compileCall options program forFile .answer ≡ Done n f →
+      let file = take n (compileCall options program forFile .lent) in
       let begun = beginCall Full file words forState in
       verdict (begun .answer .outcome) ≡ Accepted
-      → FullRuns file begun (λ k. runProgramCall (load G) program words k forFile forState .answer) (λ k. runNetlistCall file words k forState .answer)
+      → FullRuns file forFile begun (λ k. runProgramCall options program words k forFile forState) (λ k. runNetlistCall file words k forState)

@@ -6,12 +6,14 @@ use mathlib.Core.Bool.{true}
 use mathlib.Core.List.{List, [], _∷_}
 use Prim.Native.Nat.{ℕ, zero, suc, _≤_, _<_}
 use lib.ListN.{length, take}
+use Rattle.model.specs.declared.Options.{Options}
 use Rattle.model.specs.declared.Node.{Node}
 use Rattle.model.specs.declared.texts.Token.{Token}
 use Rattle.model.specs.declared.Checked.the-variants.{Accepted}
 use Rattle.model.specs.declared.Written.the-variants.{Done}
 use Rattle.model.specs.Refusals.{first}
-use Rattle.model.specs.Program.{Code, alone, preorder, nodeBytes, programOf}
+use Rattle.model.specs.Program.{Code, alone, preorder, nodeBytes}
+use Rattle.model.specs.ProgramChecks.{programWith}
 use Rattle.model.specs.Text.{valueFrom, isNumber, isName, Lexeme, wordsOf, tokens, Means, BreaksAt}
 use Rattle.model.specs.Reader.{good, bad}
 use Rattle.model.specs.TimeTables.{Given, load}
@@ -48,15 +50,15 @@ pub record Texts : Type 0 where
   pub broken : (text : List ℕ) (p : ℕ) → readingOf text ≡ bad p
       → (i : ℕ) × BreaksAt (tokens (wordsOf text)) i × (p ≡ placeAt (length text) (wordsOf text) i)
   -- the bytes that an accepted text gives are those of its reading, and the program that they are is that statement
-  pub program : (G : Given) (text lent : List ℕ) (n f : ℕ) → readTextCall (load G) text lent .answer ≡ Done n f →
-      let bytes = take n (readTextCall (load G) text lent .lent) in
-      (P : Code) × Means (tokens (wordsOf text)) P × (bytes ≡ nodeBytes (preorder P)) × (programOf (G .pulse) (G .procedures) bytes ≡ record { bodies = []; main = P; pulse = G .pulse })
+  pub program : (options : Options) (text lent : List ℕ) (n f : ℕ) → readTextCall options text lent .answer ≡ Done n f →
+      let bytes = take n (readTextCall options text lent .lent) in
+      (P : Code) × Means (tokens (wordsOf text)) P × (bytes ≡ nodeBytes (preorder P)) × (programWith options bytes ≡ record { bodies = []; main = P; pulse = options .pulse })
   -- a text that passes 17 and 18 has bytes for its program, and is compiled and run as that program, of which demands 2 and 3 speak
   pub bytes : (text : List ℕ) → first (textChecks text) ≡ Accepted → Bytes (textProgram text)
-  pub compiled : (G : Given) (text lent : List ℕ) → first (textChecks text) ≡ Accepted
-      → compileTextCall (load G) text lent ≡ compileCall (load G) (textProgram text) lent
-  pub run : (G : Given) (text words : List ℕ) (n : ℕ) (forFile lent : List ℕ) → first (textChecks text) ≡ Accepted
-      → runTextCall (load G) text words n forFile lent ≡ runProgramCall (load G) (textProgram text) words n forFile lent
+  pub compiled : (options : Options) (text lent : List ℕ) → first (textChecks text) ≡ Accepted
+      → compileTextCall options text lent ≡ compileCall options (textProgram text) lent
+  pub run : (options : Options) (text words : List ℕ) (n : ℕ) (forFile lent : List ℕ) → first (textChecks text) ≡ Accepted
+      → runTextCall options text words n forFile lent ≡ runProgramCall options (textProgram text) words n forFile lent
   -- the refusals in the published order, and what a refusal leaves
   pub reading : (G : Given) (text lent : List ℕ) →
       let c = writtenVerdict (readTextCall (load G) text lent .answer) in

@@ -17,7 +17,7 @@ use Rattle.model.specs.Circuit.{cell, shape, control, names, memories, pastMemo
 use Rattle.model.specs.NetlistFile.{runningSum, sumAfter, sumWith, cellBytes, cellFrom, cellsAt, wordSum, restBytes, blockWith, block, blocks, fileOf, cellsOf, fileLengthWrong, sumFault, countWrong, pulseWrong, allZero, headerRight, headerFault, controlIn, wordIn, ofArray, arrayIn, kept, keeps, stands, placed, arrayPlaced, cellFault, netCheck, fileCheck}
 use Rattle.model.specs.TimeTables.{defaults}
 use Rattle.model.specs.Calls.{Returned, writing, compileCall, readCall, writeCall}
-use Rattle.model.specs.CellSlices.{rewired, behind, renumberCall}
+use Rattle.model.specs.CellSlices.{rewired, behind, renumberCall, checkCellsCall, placing, readCellsCall}
 use Rattle.model.specs.Netlists.{numbering, front, idle, array, idleArrays, arrays}
 use Rattle.model.specs.Cases.{raw, repeated, checkOfProgram}
 
@@ -227,6 +227,11 @@ limits-right : (fileLengthWrong (replicate 100352 0) ≡ false) × (fileLengthWr
 unfolding fileLengthWrong countWrong
 limits-right = (refl, refl, refl, refl, refl)
 
+-- 84 cells make one block, 85 make two
+blocks-right : (fileOf 1 full 0 ≡ block 0 84 0 full) × (fileOf 1 (plus (replicate 58 five)) 0 ≡ large)
+unfolding checkOfFile repeated
+blocks-right = (refl, refl)
+
 -- a file, and what is said of it
 files : List (List ℕ × Checked)
 files =
@@ -247,6 +252,9 @@ files =
     -- so many blocks as it needs, and a finish below it
     ∷ (blockWith 0 85 4 rest, refuse 11 0)
     ∷ (small ++ small, refuse 11 0)
+    -- 84 cells need one, and no block is more than needed
+    ∷ (block 0 84 0 full, Accepted)
+    ∷ (block 0 84 0 full ++ block 1 84 0 [], refuse 11 0)
     ∷ (blockWith 0 31 31 rest, refuse 11 0)
     -- the block's number is its own, cells and finish are those of block 0
     ∷ (blockWith 1 31 4 rest, refuse 11 0)
@@ -271,6 +279,29 @@ files =
 files-right : map (λ r. fileCheck (r .0)) files ≡ map (λ r. r .1) files
 unfolding files small checkOfFile repeated
 files-right = refl
+
+-- Cells as structs ---------------------------------------------------------------------------------------------------------------------
+
+-- 11 before 12, whatever the cells are: 16,385 are too many, and 16,384 of the start break the rules from the second on
+most-right : (checkCellsCall (replicate 16385 (cell 32 0 0 0)) 0 ≡ refuse 11 0) × (checkCellsCall (replicate 16384 (cell 32 0 0 0)) 0 ≡ refuse 12 1)
+unfolding checkOfFile checkCellsCall
+most-right = (refl, refl)
+
+-- the 27 cells of ok, read behind three: what names a cell names one three places on, and the finish is the file's own; 29 places are too few
+behind-three :
+    (readCellsCall (fileOf 1 (front (idle 16 (arrays []))) 0) 3 (replicate 31 (cell 9 9 9 9))
+    ≡ record {
+      answer = Done 27 0;
+      lent =
+          replicate 3 (cell 9 9 9 9)
+          ++ (cell 32 0 0 0 ∷ cell 33 0 0 0 ∷ cell 1 0 0 0
+          ∷ replicate 16 (cell 40 0 4 5)
+          ++ (cell 42 0 4 5 ∷ cell 43 0 5 0 ∷ cell 42 1 4 5 ∷ cell 43 0 5 0 ∷ cell 42 2 4 5 ∷ cell 43 0 5 0 ∷ cell 42 3 4 5 ∷ cell 43 0 5 0 ∷ cell 9 9 9 9 ∷ []));
+    })
+    × (readCellsCall (fileOf 1 (front (idle 16 (arrays []))) 0) 3 (replicate 29 (cell 9 9 9 9))
+    ≡ record { answer = Written.Refused (record { number = 14; place = 0 }); lent = replicate 29 (cell 9 9 9 9) })
+unfolding checkOfFile rewired names placing readCellsCall
+behind-three = (refl, refl)
 
 -- Renumbering --------------------------------------------------------------------------------------------------------------------------
 

@@ -73,6 +73,8 @@ programs =
     ∷ (2, ok ∷ call 1 0 ∷ par (call 1 0) (call 2 1) ∷ [], refuse 25 2)
     ∷ (3, ok ∷ call 1 0 ∷ call 1 0 ∷ par (call 1 1) (call 1 2) ∷ [], refuse 25 3)
     ∷ (2, ok ∷ par (call 1 0) (seq ok (call 1 0)) ∷ ok ∷ [], refuse 25 1)
+    ∷ (1, ok ∷ par (ite 1 (var 0) ok (call 1 0)) (call 2 0) ∷ [], refuse 25 1)
+    ∷ (1, ok ∷ par (call 2 0) (ite 1 (var 0) (call 1 0) ok) ∷ [], refuse 25 1)
     ∷ (2, ok ∷ ok ∷ par (call 1 0) (call 2 1) ∷ [], Accepted)
     ∷ (1, ok ∷ seq (call 1 0) (par (call 1 0) ok) ∷ [], Accepted)
     -- the first such node; every 7 before it, and it before every 8

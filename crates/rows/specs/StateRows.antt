@@ -252,6 +252,11 @@ bytes =
     ∷ (at 3 0, 1, 1, false)
     ∷ []
 
+-- both held bits of a merge are two in flight
+both-held : map (λ n. sound Full (brief net) (set (set (set (replicate 1000 0) 4 n) (at 6 4) 1) (at 6 5) 1)) (1 ∷ 2 ∷ 3 ∷ []) ≡ false ∷ true ∷ false ∷ []
+unfolding courseOf
+both-held = refl
+
 bytes-right : map (λ r. sound Full (brief net) (set (set (replicate 1000 0) 4 (r .2)) (r .0) (r .1))) bytes ≡ map (λ r. r .3) bytes
 unfolding bytes courseOf
 bytes-right = refl

@@ -1,6 +1,7 @@
 -- Tables of operator times with what their check says, worked out by hand from paper 02, S-4 and S-5: refusals 19 to 21 with their places, what is just
 -- allowed, and what a program's check says under a table. Assumes nothing.
 use mathlib.Core.Path.{_≡_, refl}
+use mathlib.Core.Bool.{true, false}
 use mathlib.Core.List.{List, [], _∷_, _++_, map}
 use Prim.Native.Nat.{ℕ}
 use lib.ListN.{set, replicate}
@@ -10,7 +11,7 @@ use Rattle.model.specs.Word.{bytes16}
 use Rattle.model.specs.Refusals.{refuse, firstFault}
 use Rattle.model.specs.Program.{builtInTimes}
 use Rattle.model.specs.NetlistFile.{wordSum, blockWith}
-use Rattle.model.specs.TimeTables.{byteWrong, tableFault, tableSumWrong, timesIn, given, verdictOf, timesOf, beside, load, defaults}
+use Rattle.model.specs.TimeTables.{byteWrong, tableFault, tableSumWrong, timesIn, given, givenIf, verdictOf, timesOf, beside, load, defaults}
 use Rattle.model.specs.Calls.{checkCall}
 use Rattle.model.specs.Cases.{raw, checkOfProgram}
 
@@ -68,6 +69,11 @@ tables =
 tables-right : map (λ r. load (beside (given (r .0)) 0 1) .checked) tables ≡ map (λ r. r .1) tables
 unfolding tables builtInFile load verdictOf timesOf tableSumWrong tableFault byteWrong wordSum firstFault timesIn bytes16
 tables-right = refl
+
+-- a flag tells whether a table is given: without it no file is looked at, with it an empty one is 19
+flags-right : map (λ b. load (beside (givenIf b []) 0 1) .checked) (false ∷ true ∷ []) ≡ Accepted ∷ refuse 19 0 ∷ []
+unfolding givenIf load verdictOf
+flags-right = refl
 
 -- a table, a program, and what the check says of both: x0 := !x0 takes the time of kind 3, x0 := a0[x0] that of kind 10, and a table's refusal comes before the program's
 checks : List (List ℕ × List ℕ × Checked)

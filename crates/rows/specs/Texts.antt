@@ -10,12 +10,15 @@ use lib.ListN.{replicate}
 use Rattle.model.specs.declared.Checked.{Checked}
 use Rattle.model.specs.declared.Checked.the-variants.{Accepted}
 use Rattle.model.specs.declared.Outcome.the-variants.{Ended, Open}
+use Rattle.model.specs.declared.Written.{Written}
+use Rattle.model.specs.declared.Written.the-variants.{Done}
 use Rattle.model.specs.declared.Answer.{Answer}
 use Rattle.model.specs.Refusals.{refuse, first}
 use Rattle.model.specs.Program.{const, var, compl, op, Code, ok, tick, assign, seq, par, ite, while, repeat, preorderE, preorder}
 use Rattle.model.specs.Ascii.{ascii}
 use Rattle.model.specs.Text.{blank, digit, letter, runLength, allDigits, valueFrom, isNumber, isName, same, wordCode, twoCode, oneCode, limitAfter, runToken, tokenAt, sizeAt, wordsFrom, outside}
 use Rattle.model.specs.Reader.{Reading, good, holdOf, reachOf, pop, topCode, topStart, leaf, opened, openedNode, between, closed, turned, reduced, withDelay, onStatement, onOperand, onAfterOperand, onAfterStatement, onDelay, onBody, stepOf, isBroken, complete, readFrom}
+use Rattle.model.specs.TimeTables.{defaults}
 use Rattle.model.specs.Calls.{writing, refusedAnswer}
 use Rattle.model.specs.Hubrun.{digits, line, linesOf, textOf, hubrunText}
 use Rattle.model.specs.TextCalls.{readingOf, brokenAt, bytesRead, textChecks, readTextCall}
@@ -82,6 +85,11 @@ refusals =
     ∷ ("ok # ok", refuse 17 3)
     ∷ ("ok; skip", refuse 17 4)
     ∷ ("tick1", refuse 17 0)
+    -- a run is one word, whatever it begins with; capitals are letters, and no words of ours; a tab, an underscore and what isn't ASCII are outside
+    ∷ ("tickA 1", refuse 17 0)
+    ∷ ("OK", refuse 17 0)
+    ∷ ("x0 := 1x @1", refuse 17 6)
+    ∷ ("ok_1", refuse 17 2)
     ∷ ("x0 : = 1 @1", refuse 17 3)
     ∷ ("ok end", refuse 18 3)
     ∷ ("end x16", refuse 17 4)
@@ -97,6 +105,11 @@ refusals =
 refusals-right : map (λ r. first (textChecks (ascii (r .0)))) refusals ≡ map (λ r. r .1) refusals
 unfolding refusals readingOfText outside brokenAt
 refusals-right = refl
+
+-- the same of texts by their bytes: a tab, which separates nothing, and a byte above 127
+bytes-right : map (λ s. first (textChecks s)) ((ascii "ok;" ++ (9 ∷ ascii "ok")) ∷ (ascii "ok " ++ (195 ∷ 182 ∷ [])) ∷ []) ≡ refuse 17 3 ∷ refuse 17 3 ∷ []
+unfolding readingOfText outside brokenAt
+bytes-right = refl
 
 -- "17: longer, place 4,096"; as long as it may be, blanks alone are no statement: 18, at the length
 long-right : map (λ n. first (textChecks (replicate n (code " ")))) (4096 ∷ 4097 ∷ []) ≡ refuse 18 4096 ∷ refuse 17 4096 ∷ []
@@ -128,6 +141,17 @@ outputs =
     ∷ ("ok; x16 := 0 @1", ascii "refused 17 4\n")
     ∷ ("ok; tick 0", ascii "refused 7 2\n")
     ∷ []
+
+-- reading the first of them: its twelve bytes want twelve
+rooms : List (ℕ × Written × List ℕ)
+rooms =
+    (12, Done 12 0, 19 ∷ 0 ∷ 0 ∷ 0 ∷ 16 ∷ 0 ∷ 0 ∷ 0 ∷ 17 ∷ 3 ∷ 0 ∷ 0 ∷ [])
+    ∷ (11, Written.Refused (record { number = 14; place = 0 }), replicate 11 7)
+    ∷ []
+
+rooms-right : map (λ r. readTextCall defaults (ascii "ok; tick 3") (replicate (r .0) 7)) rooms ≡ map (λ r. record { answer = r .1; lent = r .2 }) rooms
+unfolding rooms readingOfText outside brokenAt checkOfProgram bytesRead writing readTextCall
+rooms-right = refl
 
 outputs-right : map (λ r. hubtextOutput (ascii (r .0))) outputs ≡ map (λ r. r .1) outputs
 unfolding outputs readingOfText outside brokenAt checkOfProgram bytesRead writing readTextCall written hubtextOutput digits line

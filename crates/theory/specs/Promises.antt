@@ -6,6 +6,7 @@ pub mod Replay
 pub mod Served
 pub mod Behaves
 pub mod Kept
+pub mod Answering
 pub mod FullRuns
 pub mod Demands
 pub mod Formats

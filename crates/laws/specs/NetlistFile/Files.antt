@@ -15,12 +15,16 @@ use Rattle.model.specs.declared.Cell.{Cell}
 use Rattle.model.specs.declared.Checked.the-variants.{Accepted}
 use Rattle.model.specs.Circuit.{cellAt, noCell}
 use Rattle.model.specs.NetlistFile.{cellLimit, fileLimit, cellFrom, cellsAt, inFile, block, blockAt, blocksFor, fileOf, restBytes, countOf, finishOf, cellsOf, fileLengthWrong, sumFault, countWrong, headerFault, netCheck, fileCheck, firstNumber, pulseOf, pulseWrong}
+use Rattle.model.specs.FilePromises.{FewestBlocks}
 use Rattle.model.specs.Word.{Bytes}
 use Rattle.laws.specs.Refusals.Laws.{or-false, faultless}
 use Rattle.laws.specs.NetlistFile.Passed.{FilePassed, file-passed, pulse-right, count-range, count-cells}
 use Rattle.laws.specs.NetlistFile.CellBytes.{same-cell, cells-are, cell-of}
 use Rattle.laws.specs.NetlistFile.RunningSum.{running-sum}
 use Rattle.laws.specs.NetlistFile.Blocks.{in-block, block-sum, headed-written, block-at, blocks-length, count-is, pulse-is, finish-is, block-back, header-of, blocks-back, take-short}
+
+pub fewest-blocks : (n : ℕ) → FewestBlocks n
+fewest-blocks n = record { room = omega arith; needed = λ l. omega (arith, l) }
 
 -- Cells of a block are cells of the file -----------------------------------------------------------------------------------------------
 

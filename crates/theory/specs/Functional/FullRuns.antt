@@ -4,7 +4,7 @@
 use mathlib.Core.Path.{_≡_, refl, sym, _∙_, ap}
 use mathlib.Core.Bool.{Bool, true, false}
 use mathlib.Core.List.{List, [], _∷_}
-use Prim.Native.Nat.{ℕ, suc, _+_, _<_, _≤_}
+use Prim.Native.Nat.{ℕ, _+_, _<_, _≤_}
 use native.Mathlib.Omega.{arith}
 use native.Mathlib.Decide.{ℕ-discrete}
 use lib.Dec.{ltb}
@@ -13,7 +13,6 @@ use borrow.Author.Tests.{lt-ltb, le-ltb, ne-eqb}
 use Rattle.model.specs.declared.Cell.{Cell}
 use Rattle.model.specs.declared.Format.the-variants.{Full}
 use Rattle.model.specs.declared.Options.{Options}
-use Rattle.model.specs.declared.Checked.{Checked}
 use Rattle.model.specs.declared.Checked.the-variants.{Accepted}
 use Rattle.model.specs.declared.Outcome.the-variants.{Ended, Open}
 use Rattle.model.specs.declared.Answer.{Answer}
@@ -24,11 +23,11 @@ use Rattle.model.specs.Program.{Stmt, programOf}
 use Rattle.model.specs.Rules.{functional, Store, Ends, ended, still, run, showsAt, due, atEnd}
 use Rattle.model.specs.Circuit.{Netlist, Sig, Values, high, level, Obeys}
 use Rattle.model.specs.NetlistFile.{cellsOf, netOf, finishOf, lastWords}
-use Rattle.model.specs.TimeTables.{load}
 use Rattle.model.specs.State.{instantOf, Course, stateSize, nowAt, beginState, continued}
-use Rattle.model.specs.Calls.{Returned, verdict, checkCall, wordAt, shows, running, tooLong, continueChecks, continueCall, fullState, fullCount, runNetlistChecks, runNetlistCall, listed, referenceAnswer}
+use Rattle.model.specs.Calls.{Returned, verdict, checkCall, wordAt, shows, running, tooLong, continueChecks, continueCall, fullState, fullCount, runNetlistCall, listed, referenceAnswer, overwrite, writing}
 use Rattle.model.specs.CircuitPromises.{stopsAt, NoStart}
-use Rattle.model.specs.RunPromises.{seen, seenIn, stand, Runs, dueAt, stands, startsOf, lastOf}
+use Rattle.model.specs.RunPromises.{seen, seenIn, stand, Runs, dueAt, stands, startsOf}
+use Rattle.model.specs.CircuitPromises.{wholeOf}
 use Rattle.model.specs.ProgramPromises.{endedAnswer, openAnswer}
 use Rattle.model.specs.FunctionalCalls.{statementOf, functionalFile, compileFunctionalCall, referenceFunctionalChecks, referenceFunctionalCall, lastChecks, beginFunctionalCall, continueFunctionalCall, runFunctionalCall, retold, runFunctionalProgramCall}
 use Rattle.model.specs.FunctionalPromises.{FunctionalRuns, Functional}
@@ -136,24 +135,26 @@ module _ (options : Options) (program file words lent : List ℕ) (table : optio
       (le-ltb 1000000 (instantOf state + n) (rw (holds .instant (omega arith)) (omega arith))))
       (full-free net fin n state))
 
-  run-is : (n : ℕ) → n ≤ 1000000 → runFunctionalCall file words n lent .answer ≡ whole n
+  abbrev left : ℕ → List ℕ
+  left n = fullState file words n lent
+
+  run-is : (n : ℕ) → n ≤ 1000000 → runFunctionalCall file words n lent ≡ record { answer = whole n; lent = left n }
   run-is n l =
-      ap (λ (r : Returned Answer). r .answer)
       (answer-in Full file checks lent (fullState file words n lent) (fullCount file words n lent) (runNetlistCall file words n lent)
       (unfold runNetlistCall running in
       rw (X .accepted, le-ltb 1000000 n l, promise.words-fit Full options program file words lent table e made bytes wordBytes begun, le-ltb (length lent) (stateSize Full net) (promise.room Full options program file words lent table e made bytes wordBytes begun))))
 
   program-is : (forFile : List ℕ) → ltb (length forFile) (length (functionalFile program)) ≡ false → (n : ℕ) → n ≤ 1000000
-      → runFunctionalProgramCall options program words n forFile lent .answer ≡ whole n
-  unfolding runFunctionalProgramCall running retold
+      → runFunctionalProgramCall options program words n forFile lent ≡ record { answer = whole n; netlist = overwrite file forFile; state = left n }
+  unfolding runFunctionalProgramCall running retold writing
   program-is forFile fits n l =
       let roomy : ltb (length lent) (stateSize Full net) ≡ false = le-ltb (length lent) (stateSize Full net) (promise.room Full options program file words lent table e made bytes wordBytes begun) in
       rw (table, e, ← made, le-ltb 1000000 n l, promise.words-fit Full options program file words lent table e made bytes wordBytes begun, fits, rw made at roomy)
 
   last-is : (n : ℕ) → n ≤ 1000000
-      → whole n
-      ≡ lastOf (beginFunctionalCall Full file words lent .answer .outcome) (beginFunctionalCall Full file words lent .answer) (continueFunctionalCall Full file n (beginFunctionalCall Full file words lent .lent) .answer)
-  unfolding fullState fullCount shows lastOf
+      → record { answer = whole n; lent = left n }
+      ≡ wholeOf (beginFunctionalCall Full file words lent .answer .outcome) (beginFunctionalCall Full file words lent) (continueFunctionalCall Full file n (beginFunctionalCall Full file words lent .lent))
+  unfolding fullState fullCount shows wholeOf
   last-is n l =
       rw (promise.begin-is Full options program file words lent table e made bytes wordBytes begun, continue-is n l) (by-bool (high (nowAt Full state fin)) (λ z. rw (z, z) refl) (λ z. rw z refl))
 
@@ -211,15 +212,17 @@ module _ (options : Options) (program file words lent : List ℕ) (table : optio
         rw (begins, e, H .instant l, H .body .present fin (X .wire), low n (omega arith))
 
   pub full-runs : (forFile : List ℕ) → ltb (length forFile) (length (functionalFile program)) ≡ false
-      → FunctionalRuns Q σ file (beginFunctionalCall Full file words lent) (λ k. runFunctionalProgramCall options program words k forFile lent .answer)
-      (λ k. runFunctionalCall file words k lent .answer)
+      → FunctionalRuns Q σ file forFile (beginFunctionalCall Full file words lent) (λ k. runFunctionalProgramCall options program words k forFile lent)
+      (λ k. runFunctionalCall file words k lent)
   full-runs forFile fits =
       record {
-        alike = λ n l. program-is forFile fits n l ∙ sym (run-is n l);
+        alike = λ n l.
+            program-is forFile fits n l
+            ∙ ap (λ (r : Returned Answer). record { answer = r .answer; netlist = overwrite file forFile; state = r .lent }) (sym (run-is n l));
         runs = λ n l. run-is n l ∙ last-is n l;
-        ends = λ n t σ′ l E o. run-is n l ∙ agrees n t l σ′ (ends-run functional Q timed σ t σ′ E n o);
+        ends = λ n t σ′ l E o. ap (λ (r : Returned Answer). r .answer) (run-is n l) ∙ agrees n t l σ′ (ends-run functional Q timed σ t σ′ E n o);
         goesOn = λ n l never.
-            ap seenIn (run-is n l)
+            ap (λ (r : Returned Answer). seenIn (r .answer)) (run-is n l)
             ∙ by-runs (run functional n Q σ)
             (λ t σ′ p. absurd (never t σ′ (run-ends functional Q n σ t σ′ p) (steady functional Q timed σ n atEnd t σ′ p .0)))
             (λ t σ′ p. never-leaves functional Q closed n t σ σ′ p) (λ p. stays-open n l p);
@@ -275,14 +278,14 @@ module _ (options : Options) (program words : List ℕ) (n : ℕ) (answered-so :
 pub functional-demand : Functional
 functional-demand =
     record {
-      compiled = λ G program forFile n f bytes done. functional-file (load G) program forFile n f done bytes;
-      lists = λ F G program forFile words forState calls n f done bytes wordBytes begun.
-          keeps F (load G) program (take n (compileFunctionalCall (load G) program forFile .lent)) words forState (table-accepted (load G) program forFile n f done)
-          (program-accepted (load G) program forFile n f done) (file-made (load G) program forFile n f done) bytes wordBytes begun calls;
-      fullRuns = λ G program forFile words forState n f done bytes wordBytes begun.
-          full-runs (load G) program (take n (compileFunctionalCall (load G) program forFile .lent)) words forState (table-accepted (load G) program forFile n f done)
-          (program-accepted (load G) program forFile n f done) (file-made (load G) program forFile n f done) bytes wordBytes begun forFile (file-room (load G) program forFile n f done);
-      ends = λ G program words n t σ′ v. reference-ends (load G) program words n v t σ′;
-      ended = λ G program words n e. reference-ended (load G) program words n (ap verdict e ∙ accepted-ended) e;
-      stillOpen = λ G program words n e. reference-open (load G) program words n (ap verdict e ∙ accepted-open) e;
+      compiled = λ options program forFile n f bytes done. functional-file options program forFile n f done bytes;
+      lists = λ F options program forFile words forState calls n f done bytes wordBytes begun.
+          keeps F options program (take n (compileFunctionalCall options program forFile .lent)) words forState (table-accepted options program forFile n f done)
+          (program-accepted options program forFile n f done) (file-made options program forFile n f done) bytes wordBytes begun calls;
+      fullRuns = λ options program forFile words forState n f done bytes wordBytes begun.
+          full-runs options program (take n (compileFunctionalCall options program forFile .lent)) words forState (table-accepted options program forFile n f done)
+          (program-accepted options program forFile n f done) (file-made options program forFile n f done) bytes wordBytes begun forFile (file-room options program forFile n f done);
+      ends = λ options program words n t σ′ v. reference-ends options program words n v t σ′;
+      ended = λ options program words n e. reference-ended options program words n (ap verdict e ∙ accepted-ended) e;
+      stillOpen = λ options program words n e. reference-open options program words n (ap verdict e ∙ accepted-open) e;
     }

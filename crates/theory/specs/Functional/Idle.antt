@@ -1,8 +1,8 @@
 -- What is known of each delay and each merge of a functional circuit is known of its cells: so with nothing in flight they hold nothing. Assumes nothing.
 use mathlib.Core.Path.{_≡_, refl, sym, subst, fun-ext}
-use mathlib.Core.Bool.{Bool, true, false}
-use mathlib.Core.List.{List, [], _∷_, _++_}
-use Prim.Native.Nat.{ℕ, zero, suc, _+_, _≤_, _<_}
+use mathlib.Core.Bool.{Bool, false}
+use mathlib.Core.List.{[], _∷_, _++_}
+use Prim.Native.Nat.{ℕ, zero, suc, _+_}
 use native.Mathlib.Omega.{arith}
 use lib.Dec.{eqb}
 use borrow.Author.Tests.{eq-eqb}
@@ -18,7 +18,7 @@ use Rattle.theory.specs.Numbering.Flying.{exprs}
 use Rattle.laws.specs.Numbering.Lengths.{e-len, own-len}
 use Rattle.theory.specs.Functional.Wiring.{Words, Net}
 use Rattle.theory.specs.Functional.Calm.{both}
-use Rattle.model.specs.Functional.{each, rank, many, placed, joinsAt, branches, choices, count, finishWire, outs, walk, ifDelay, ifTrue, ifThen, ifElse, ifEnd, whileTrue, whileBody, whileLoad, repeatBody, repeatDelay, repeatTrue, repeatLoad}
+use Rattle.model.specs.Functional.{each, rank, many, placed, joinsAt, branches, choices, count, finishWire, outs, walk, ifTrue, ifThen, ifElse, ifEnd, whileTrue, whileBody, whileLoad, repeatBody, repeatDelay, repeatTrue, repeatLoad}
 use Rattle.laws.specs.Functional.Count.{each-len, w-len}
 use Rattle.theory.specs.Functional.Structure.{feeds, joins, wired, Known}
 use Rattle.laws.specs.Functional.Rows.{all-each}

@@ -3,8 +3,8 @@
 -- Assumes nothing.
 use mathlib.Core.Path.{_≡_, refl, sym, _∙_, ap, ap₂, subst}
 use mathlib.Core.Logic.{_↔_}
-use mathlib.Core.Bool.{Bool, true, false}
-use mathlib.Core.List.{List, [], _∷_, _++_, map, append-nil}
+use mathlib.Core.Bool.{true, false}
+use mathlib.Core.List.{List, _∷_, _++_, map, append-nil}
 use Prim.Native.Nat.{ℕ, zero, suc, _+_, _-_, _*_, _<_, _≤_}
 use native.Mathlib.Omega.{arith}
 use lib.Dec.{ltb}
@@ -17,29 +17,26 @@ use Rattle.model.specs.declared.Format.the-variants.{Full, Compact}
 use Rattle.model.specs.declared.Options.{Options}
 use Rattle.model.specs.declared.Checked.{Checked}
 use Rattle.model.specs.declared.Checked.the-variants.{Accepted}
-use Rattle.model.specs.declared.Outcome.the-variants.{Ended, Open}
 use Rattle.model.specs.declared.Written.{Written}
 use Rattle.model.specs.declared.Written.the-variants.{Done}
 use Rattle.model.specs.declared.Answer.{Answer}
-use Rattle.model.specs.Word.{get16, Bytes, pick}
+use Rattle.model.specs.Word.{get16, Bytes}
 use Rattle.model.specs.Refusals.{first}
 use Rattle.model.specs.Program.{Stmt, programOf}
-use Rattle.model.specs.Procedures.{meaning}
 use Rattle.model.specs.ProgramChecks.{checkFunctional}
-use Rattle.model.specs.Rules.{functional, Store, Ends, still, run, due}
+use Rattle.model.specs.Rules.{functional, Store, Ends, run, due}
 use Rattle.model.specs.Circuit.{Netlist, Sig, Values, level, high, memoryWords, Obeys}
 use Rattle.model.specs.NetlistFile.{fileCheck, cellsOf, netOf, finishOf, pulseOf, pulseWrong, lastCheck, lastWords}
 use Rattle.model.specs.Functional.{netlistOf, lastAt, memoryAt, rows, sixteen, idleArrays}
 use Rattle.model.specs.Functional as circuit
-use Rattle.model.specs.TimeTables.{load}
 use Rattle.model.specs.State.{flightOf, stateSize, nowAt, beginState}
 use Rattle.model.specs.Calls.{Returned, verdict, wordAt, refusedAnswer, shows, running, tooLong, beginChecks, beginCall, listed}
-use Rattle.model.specs.CircuitPromises.{Apart, Idle, NoStart}
-use Rattle.model.specs.RunPromises.{Request, continuing, start, Call, respond, replayBy, Seen, seen, seenIn, seenOf, endedIf, Stand, stand, Runs, runAt, dueAt, expected, stands, startsOf, Along, Unchanged}
+use Rattle.model.specs.CircuitPromises.{Apart, Idle, NoStart, endedIf}
+use Rattle.model.specs.RunPromises.{Request, continuing, start, Call, respond, Seen, seen, seenOf, Stand, stand, Runs, runAt, dueAt, expected, stands, startsOf, Along, Unchanged}
 use Rattle.model.specs.FunctionalCalls.{statementOf, functionalFile, compileFunctionalChecks, compileFunctionalCall, retold, lastChecks, inMode, functionally, beginFunctionalCall}
 use Rattle.model.specs.FunctionalPromises.{respondFunctional, replayFunctional, LastWords, FunctionalBehaves, FunctionalTells, FunctionalKeeps, FunctionalFile}
-use Rattle.laws.specs.Refusals.Laws.{by-bool, not-refused, all-accept, refuse-unless, accept-take}
-use Rattle.laws.specs.Program.Fit.{Formed, Timed, Low, Basic, exits}
+use Rattle.laws.specs.Refusals.Laws.{by-bool, not-refused, all-accept, refuse-unless}
+use Rattle.laws.specs.Program.Fit.{Formed, Timed, Basic, exits}
 use Rattle.laws.specs.Program.Admitted.{program-admitted, meaning-timed, meaning-closed}
 use Rattle.laws.specs.Program.Widths.{gap-one}
 use Rattle.laws.specs.Rules.Laws.{by-runs}
@@ -50,7 +47,7 @@ use Rattle.laws.specs.NetlistFile.ReadWrite.{Wrote, wrote}
 use Rattle.laws.specs.Functional.Count.{net-len, fits}
 use Rattle.laws.specs.Functional.Compiled.{memoryCell, lastCell, walkCells, rest-free, net-accepted, count-right, last-accepted}
 use Rattle.laws.specs.Functional.Accepted.{tableAlone, also-accepted, main-basic, meaning-basic, meaning-formed, meaning-low}
-use Rattle.theory.specs.Rules.Relation.{run-ends, ends-once}
+use Rattle.theory.specs.Rules.Relation.{ends-once}
 use Rattle.theory.specs.Circuit.Bounds.{file-bounded}
 use Rattle.theory.specs.Circuit.Exists.{solution, solution-obeys}
 use Rattle.theory.specs.State.Holding.{Holding}
@@ -358,14 +355,16 @@ module _ (F : Format) (options : Options) (program file words lent : List ℕ) (
                 (λ y a b. whole.last-next Q formed basic timed starts σ W same bounded (st .begun) t B (omega arith) none t₀ σ′ p l y (omega arith)),
           )
 
-      never : ((t₀ : ℕ) (σ′ : Store) → Ends functional Q σ t₀ σ′ → ⊥) → (t : ℕ) → st .begun ≤ t → level W (finishOf file) t ≡ false
+      never : (t : ℕ) → st .begun ≤ t → ((t₀ : ℕ) (σ′ : Store) → Ends functional Q σ t₀ σ′ → st .begun + t₀ ≤ t → ⊥) → level W (finishOf file) t ≡ false
       unfolding dueAt due
-      never h t l =
+      never t l h =
           due-by t l
-          (given-alone 1 rules size starts st cs (N .given)
-          (λ k u τ q. h u τ (run-ends functional Q k σ u τ (ap (run functional k Q) (sym (N .began .0)) ∙ q))) t)
+          (given-alone 1 rules size starts st cs (N .given) t
+          (λ k u τ g q.
+          let d = decides functional Q timed σ k u τ .0 (ap (run functional k Q) (sym (N .began .0)) ∙ q) in
+          h u τ (d .1) (omega (arith, g, d .0))))
           ∙ ap (λ (τ : Store). due functional 1 Q τ (t - st .begun)) (N .began .0)
-          ∙ never-due functional 1 Q timed σ h (t - st .begun)
+          ∙ never-due functional 1 Q timed σ (t - st .begun) (λ t₀ τ E g. h t₀ τ E (omega (arith, l, g)))
 
       -- a state shows what the circuit has
       shown-at : (t : ℕ) → st .begun ≤ t → NoStart starts (st .begun) t → (t₀ : ℕ) (σ′ : Store) → Ends functional Q σ t₀ σ′ → st .begun + t₀ ≤ t
@@ -428,7 +427,7 @@ module _ (F : Format) (options : Options) (program file words lent : List ℕ) (
             from = N .began .0;
             number = number-is b K;
             words = λ t₀ σ′ E l. (shown-words t₀ σ′ E l b K, λ z. shown-words t₀ σ′ E l s H);
-            endless = λ h. rw (H .body .present (finishOf file) (X .wire), never h (st .now) (N .given .since)) open-no-end;
+            endless = λ h. rw (H .body .present (finishOf file) (X .wire), never (st .now) (N .given .since) h) open-no-end;
           }
 
     -- a whole list

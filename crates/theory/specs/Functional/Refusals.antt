@@ -1,16 +1,15 @@
 -- Demand 1 of the calls of functional circuits: each gives the first refusal in the published order, and a refusal leaves what was lent as it was, but 26.
 -- Assumes nothing.
 use mathlib.Core.Path.{_≡_, refl, sym, _∙_, ap}
-use mathlib.Core.Bool.{Bool, true, _&&_, not}
+use mathlib.Core.Bool.{true, _&&_, not}
 use mathlib.Core.List.{List, [], _∷_, _++_}
-use Prim.Native.Nat.{ℕ, _+_, _≤_}
+use Prim.Native.Nat.{ℕ, _+_}
 use native.Mathlib.Omega.{arith}
 use lib.Dec.{leb}
 use lib.ListN.{length}
 use Rattle.model.specs.declared.Format.{Format}
-use Rattle.model.specs.declared.Format.the-variants.{Full, Compact}
+use Rattle.model.specs.declared.Format.the-variants.{Full}
 use Rattle.model.specs.declared.Options.{Options}
-use Rattle.model.specs.declared.Refusal.{Refusal}
 use Rattle.model.specs.declared.Checked.{Checked}
 use Rattle.model.specs.declared.Checked.the-variants.{Accepted}
 use Rattle.model.specs.declared.Answer.{Answer}
@@ -18,7 +17,7 @@ use Rattle.model.specs.Refusals.{numberOf, refuseIf, first}
 use Rattle.model.specs.Program.{nodeAt, nodeCount, timeIn}
 use Rattle.model.specs.ProgramChecks.{added, addedFault, functionalChecks, checkFunctional}
 use Rattle.model.specs.Rules.{functional, run}
-use Rattle.model.specs.NetlistFile.{fileCheck, cellsOf, netOf, finishOf, carries, lastFault, lastCheck}
+use Rattle.model.specs.NetlistFile.{cellsOf, netOf, finishOf, carries, lastFault, lastCheck}
 use Rattle.model.specs.Circuit.{cellAt}
 use Rattle.model.specs.Functional as circuit
 use Rattle.model.specs.TimeTables.{Given, load}

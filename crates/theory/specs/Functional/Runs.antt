@@ -1,13 +1,13 @@
 -- What a functional circuit does from a start pulse, up to a horizon, beside what the rules say. Assumes nothing.
 use Prim.Native.Nat.{ℕ, suc, _+_, _-_, _≤_}
-use mathlib.Core.Path.{_≡_, refl, sym, _∙_, ap, ap₂, subst, fun-ext}
-use mathlib.Core.Bool.{Bool, true, false}
+use mathlib.Core.Path.{_≡_, refl, _∙_, ap, ap₂, subst, fun-ext}
+use mathlib.Core.Bool.{true, false}
 use mathlib.Core.Logic.{inl, inr}
 use native.Mathlib.Omega.{arith}
 use lib.Dec.{eqb}
-use Rattle.model.specs.Word.{pick, isZero}
+use Rattle.model.specs.Word.{pick}
 use Rattle.model.specs.Program.{Expr, Stmt, ok, tick, assign, seq}
-use Rattle.model.specs.Circuit.{Sig, delayed}
+use Rattle.model.specs.Circuit.{Sig}
 use Rattle.model.specs.Rules.{functional, run, Store, eval, put, Run, ended, still, atEnd}
 use Rattle.laws.specs.Refusals.Laws.{by-le, not-both}
 use Rattle.laws.specs.Program.Fit.{Timed, exits}

@@ -1,35 +1,34 @@
 -- The structure theorem of functional netlists: a statement's cells, wherever they stand, are a functional circuit of the statement. Assumes nothing.
-use mathlib.Core.Path.{_≡_, refl, sym, ap, ap₂, subst, fun-ext, _∙_}
+use mathlib.Core.Path.{_≡_, refl, sym, ap, ap₂, fun-ext, _∙_}
 use mathlib.Core.Bool.{Bool, true, false, _&&_, _||_, not}
 use mathlib.Core.List.{List, [], _∷_, _++_}
 use mathlib.Core.Logic.{inl}
 use Prim.Native.Nat.{ℕ, zero, suc, _+_, _-_, _%_, _<_, _≤_}
-use native.Mathlib.Nat.{add-zero, zero-add, not-suc-le-zero, le-of-suc-le-suc}
 use native.Mathlib.Omega.{arith}
-use lib.Dec.{eqb, leb, ltb, T, le→leb, lt→ltb, ltb→lt}
+use lib.Dec.{eqb, ltb, T, lt→ltb, ltb→lt}
 use lib.Bits.{bitAnd, bitOr, and-zero-r, or-zero-l, or-zero-r, and-mask, or-self}
-use borrow.Author.Tests.{eq-eqb, ne-eqb, eqb-true, eqb-false, lt-leb}
+use borrow.Author.Tests.{eqb-true}
 use Rattle.model.specs.declared.Cell.{Cell}
 use Rattle.model.specs.Word.{pick, bit, isZero, operate}
 use Rattle.model.specs.Program.{Expr, const, var, compl, op, elem, Stmt, ok, tick, assign, assignElem, seq, par, ite, while, repeat, loop, exit, writes}
 use Rattle.model.specs.Rules.{Store, owner, eval, put, over, kept}
 use Rattle.model.specs.Circuit.{cell, Sig, Values, Elements, level, latch, delayed}
 use Rattle.model.specs.Numbering.{Wires, exprCount, exprWire, exprCells, ifDelayCount, ifDelayCells, ifPulse}
-use Rattle.laws.specs.Refusals.Laws.{by-bool, not-both, or-false}
+use Rattle.laws.specs.Refusals.Laws.{or-false}
 use Rattle.laws.specs.Program.Fit.{FormedExpr, Formed, BasicExpr, Basic}
 use Rattle.laws.specs.Rules.Words.{owner-variable}
 use Rattle.theory.specs.Control.Wiring.{_≈_, either}
 use Rattle.theory.specs.Functional.Merges.{merged, Empty}
-use Rattle.laws.specs.Numbering.Cells.{cellVal, Rule, Obeyed, All, all-of, split}
+use Rattle.laws.specs.Numbering.Cells.{cellVal, Rule, Obeyed, All, split}
 use Rattle.laws.specs.Numbering.Lengths.{e-len, own-len}
 use Rattle.theory.specs.Numbering.Levels.{level-of, delayed-cong, delayed-zero}
 use Rattle.theory.specs.Numbering.Structure.{expr-is}
-use Rattle.laws.specs.Refusals.Laws.{is-true, is-false}
+use Rattle.laws.specs.Refusals.Laws.{is-true}
 use Rattle.theory.specs.Control.Signal.{Clear, delayed-at, delayed-off}
 use Rattle.laws.specs.Refusals.Laws.{by-le}
-use Rattle.theory.specs.Functional.Wiring.{Words, loaded, Loads, written, Place, here, also, left, right, Tags, lft, rgt, Net}
+use Rattle.theory.specs.Functional.Wiring.{Words, loaded, Loads, Place, here, also, left, right, Tags, Net}
 use Rattle.theory.specs.Functional.Calm.{both, Clean, net-map}
-use Rattle.model.specs.Functional.{rows, sixteen, rowsOf, each, among, rank, many, placed, joinsAt, branches, choices, count, finishWire, outs, walk, ifDelay, ifTrue, ifThen, ifElse, ifEnd, whileTrue, whileBody, whileLoad, repeatBody, repeatDelay, repeatTrue, repeatLoad}
+use Rattle.model.specs.Functional.{each, rank, many, placed, joinsAt, branches, choices, count, finishWire, outs, walk, ifTrue, ifThen, ifElse, ifEnd, whileTrue, whileBody, whileLoad, repeatBody, repeatDelay, repeatTrue, repeatLoad}
 use Rattle.laws.specs.Functional.Count.{each-len, w-len}
 use Rattle.laws.specs.Functional.Rows.{each-at, rank-below}
 

@@ -3,10 +3,10 @@
 -- Assumes nothing.
 use Prim.Native.Nat.{ℕ, suc, _+_, _≤_}
 use mathlib.Core.Path.{_≡_, refl, sym, _∙_, ap, ap₂, fun-ext}
-use mathlib.Core.Bool.{Bool, true, false, _||_}
+use mathlib.Core.Bool.{Bool, false}
 use lib.Dec.{eqb}
 use lib.Bits.{bitOr}
-use Rattle.model.specs.Word.{pick, isZero}
+use Rattle.model.specs.Word.{pick}
 use native.Mathlib.Omega.{arith}
 use borrow.Author.Tests.{lt-ltb, le-ltb}
 use Rattle.model.specs.Program.{Stmt, ok, tick, assign, assignElem, seq, par, ite, while, repeat, loop, exit}
@@ -16,11 +16,10 @@ use Rattle.theory.specs.Control.Wiring.{either}
 use Rattle.laws.specs.Refusals.Laws.{by-bool, by-le}
 use Rattle.laws.specs.Program.Fit.{Timed, Formed}
 use Rattle.laws.specs.Rules.Laws.{steady}
-use Rattle.theory.specs.Control.Signal.{Quiet}
 use Rattle.theory.specs.Control.Pulses.{at}
 use Rattle.theory.specs.Functional.Wiring.{Words, Tags, lft, rgt, loaded, Loads, written, Net}
 use Rattle.theory.specs.Functional.Calm.{Calm, Late, calm-closed, Flying, Rests, rest}
-use Rattle.theory.specs.Functional.Runs.{Stable, Begins, Ended, Does, RunOf, by-ended, lately, run-ok, run-tick, run-assign, run-seq}
+use Rattle.theory.specs.Functional.Runs.{Begins, Does, RunOf, by-ended, lately, run-ok, run-tick, run-assign, run-seq}
 use Rattle.theory.specs.Functional.Sides.{run-par, run-ite}
 use Rattle.theory.specs.Functional.Loops.{run-while, run-repeat}
 

@@ -2,9 +2,9 @@
 -- flight its finish is high exactly when a finish is due by the functional rules, and its last sixteen cells show the last words from then until the
 -- instant of the next start; then nothing is in flight, and before it something is.
 -- Assumed: the program's trees are those of an accepted one, of document 01's kinds; start words and values are words of two bytes.
-use mathlib.Core.Path.{_≡_, refl, sym, ap, ap₂, _∙_}
+use mathlib.Core.Path.{_≡_, refl, sym, ap, _∙_}
 use mathlib.Core.Bool.{Bool, true, false, _&&_, _||_, not}
-use mathlib.Core.List.{List, [], _∷_, _++_}
+use mathlib.Core.List.{List, _++_}
 use mathlib.Core.Logic.{_↔_}
 use Prim.Native.Nat.{ℕ, zero, suc, _+_, _-_, _<_, _≤_}
 use native.Mathlib.Nat.{zero-add, le-of-suc-le-suc}
@@ -13,7 +13,6 @@ use lib.Bits.{or-zero-r}
 use lib.Dec.{eqb, ltb}
 use lib.ListN.{length, take}
 use lib.Seq.{take-append-add}
-use borrow.Author.Tests.{lt-ltb, eq-eqb}
 use Rattle.model.specs.declared.Cell.{Cell}
 use Rattle.model.specs.declared.Merge.{Merge}
 use Rattle.model.specs.Word.{pick, bit, isZero, operate}
@@ -22,22 +21,22 @@ use Rattle.model.specs.Rules.{functional, Store, ended, still, run, due}
 use Rattle.model.specs.Circuit.{cell, cellAt, Sig, Values, level, memory, element, delayed, remainingBefore, pulses, heldBefore, stepOf, memories, startWord, Netlist, Obeys}
 use Rattle.model.specs.Numbering.{headCells}
 use Rattle.model.specs.declared.Format.the-variants.{Compact}
-use Rattle.model.specs.CircuitPromises.{heldOf, Apart, Idle, NoStart}
-use Rattle.model.specs.Functional.{rows, sixteen, count, walk, memoryAt, arraysAt, walkAt, lastAt, lastWires, startWires, idleArrays, netlistOf, finishOf}
-use Rattle.laws.specs.Refusals.Laws.{by-bool, by-le, not-both}
+use Rattle.model.specs.CircuitPromises.{Apart, Idle, NoStart}
+use Rattle.model.specs.Functional.{rows, sixteen, memoryAt, arraysAt, walkAt, lastAt, lastWires, startWires, idleArrays, netlistOf, finishOf}
+use Rattle.laws.specs.Refusals.Laws.{by-le, not-both}
 use Rattle.laws.specs.Program.Fit.{Formed, Timed, Basic}
 use Rattle.laws.specs.Circuit.Shapes.{delay-kind, delay-shape, merge-shape, of-merge, by-merge}
-use Rattle.laws.specs.Numbering.Cells.{cellVal, Rule, Obeyed, obeys-holds, All, all-of, all-at}
+use Rattle.laws.specs.Numbering.Cells.{cellVal, Rule, obeys-holds, All, all-of}
 use Rattle.laws.specs.Numbering.Memories.{memories-append}
 use Rattle.laws.specs.Functional.Count.{net-len}
 use Rattle.laws.specs.Functional.Rows.{sixteen-at, all-sixteen}
-use Rattle.laws.specs.Functional.Compiled.{memoryCell, lastCell, walkCells, Laid, lay, unlay, laid-at}
-use Rattle.theory.specs.Control.Signal.{Quiet, Clear, delayed-at, delayed-off}
+use Rattle.laws.specs.Functional.Compiled.{memoryCell, lastCell, walkCells, Laid, lay, laid-at}
+use Rattle.theory.specs.Control.Signal.{Clear, delayed-at, delayed-off}
 use Rattle.theory.specs.Numbering.Levels.{level-of, ||-false}
 use Rattle.theory.specs.State.Wires.{remaining-low}
 use Rattle.theory.specs.Functional.Merges.{Spaced, Empty}
 use Rattle.theory.specs.Functional.Wiring.{Words, Tags, Net}
-use Rattle.theory.specs.Functional.Calm.{both, Calm, Clean, Late, calm-clean, calm-zero, not-calm}
+use Rattle.theory.specs.Functional.Calm.{both, Calm, Clean, calm-clean, calm-zero, not-calm}
 use Rattle.theory.specs.Functional.Runs.{Begins}
 use Rattle.theory.specs.Functional.Timing.{rests-after, alive-at, late-at, finish-at, words-after, words-next}
 use Rattle.theory.specs.Functional.Structure.{shows, shows-at, below-16, Inside, wired, Known, Still, circuit-of, clean-of}

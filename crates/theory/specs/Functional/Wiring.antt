@@ -1,6 +1,6 @@
 -- The functional circuit of a statement, after document 001: a relation between its start, its finish, the words that it gets and the words that it
 -- hands on. Assumes nothing: definitions.
-use Prim.Native.Nat.{ℕ, suc, _+_}
+use Prim.Native.Nat.{ℕ, suc}
 use mathlib.Core.Path.{_≡_}
 use mathlib.Core.Bool.{Bool, true, false, not, _&&_, _||_}
 use lib.Bits.{bitOr}

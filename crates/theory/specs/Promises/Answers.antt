@@ -2,7 +2,7 @@
 use mathlib.Core.Path.{_≡_, refl, sym, _∙_, ap, ap₂}
 use mathlib.Core.Bool.{Bool, true, false}
 use mathlib.Core.List.{List, [], _∷_, _++_, append-nil}
-use Prim.Native.Nat.{ℕ, zero, suc, _+_, _<_, _≤_}
+use Prim.Native.Nat.{ℕ, zero, suc, _+_, _<_, _≤_, suc-le-suc}
 use native.Mathlib.Nat.{add-zero}
 use native.Mathlib.Omega.{arith}
 use lib.Dec.{eqb}
@@ -17,6 +17,17 @@ use Rattle.model.specs.Calls.{listed}
 use Rattle.laws.specs.Numbering.Parts.{fromArrays, fromMemories, memoryCells}
 use Rattle.laws.specs.Numbering.Arrays.{below, parts, below-len, below-free}
 use Rattle.laws.specs.Numbering.Memories.{memories-append, mems-all}
+
+-- the words of memories that show the same
+pub memory-same : (cs : List Cell) (k : ℕ) (v w : ℕ → ℕ) → ((i : ℕ) → i < length cs → v (k + i) ≡ w (k + i)) → memoryWords cs k v ≡ memoryWords cs k w
+unfolding memoryWords
+memory-same [] k v w h = refl
+memory-same (c ∷ cs) k v w h =
+    ap₂ (λ (x : ℕ) (l : List ℕ). pick (eqb (c .kind) 40) (x ∷ l) l) (rw add-zero at (h 0 (omega arith)))
+    (memory-same cs (k + 1) v w
+    (λ i l.
+    let e : k + 1 + i ≡ k + suc i = omega arith in
+    rw e (h (suc i) (suc-le-suc l))))
 
 module _ (v : ℕ → ℕ) where
   pub words-append : (xs ys : List Cell) (k : ℕ) → memoryWords (xs ++ ys) k v ≡ memoryWords xs k v ++ memoryWords ys (k + length xs) v

@@ -7,6 +7,7 @@ use mathlib.Core.List.{List}
 use mathlib.Core.Logic.{_↔_}
 use Prim.Native.Nat.{ℕ, suc, _+_, _-_, _*_, _/_, _%_, _≤_, _<_}
 use native.Mathlib.Omega.{arith}
+use Rattle.model.specs.declared.Checked.the-variants.{Accepted}
 use Rattle.model.specs.declared.Refusal.{Refusal}
 use Rattle.model.specs.declared.Cell.{Cell}
 use Rattle.model.specs.declared.Format.{Format}
@@ -36,7 +37,7 @@ use Rattle.theory.specs.Rules.Relation.{run-ends, ends-run, due-ends, en
 use Rattle.theory.specs.Numbering.Whole.{showing}
 use Rattle.theory.specs.State.Holding.{Holding}
 use Rattle.theory.specs.State.Sound.{holds}
-use Rattle.theory.specs.Promises.Answers.{memory-words, listed-same, listed-further}
+use Rattle.theory.specs.Promises.Answers.{memory-same, memory-words, listed-same, listed-further}
 use Rattle.theory.specs.Promises.Due.{shown-word, shown-element, last-words}
 use Rattle.theory.specs.Promises.Stands.{given-alone}
 use Rattle.theory.specs.Promises.Served.{OfProgram, published, served}
@@ -65,8 +66,8 @@ module _ (κ : Costs) (P : Stmt) (timed : Timed P) where
   pub at-end : (τ : Store) (t₀ : ℕ) (τ′ : Store) → Ends κ P τ t₀ τ′ → run κ t₀ P τ ≡ ended t₀ τ′
   at-end τ t₀ τ′ h = decides τ t₀ t₀ τ′ .1 (omega arith, h)
 
-pub never-due : (κ : Costs) (w : ℕ) (P : Stmt) → Timed P → (τ : Store) → ((t : ℕ) (τ′ : Store) → Ends κ P τ t τ′ → ⊥) → (t : ℕ) → due κ w P τ t ≡ false
-never-due κ w P timed τ h t = by-bool (due κ w P τ t) (λ e. let g = due-ends κ w P timed τ t e in absurd (h (g .0) (g .1) (g .2))) (λ e. e)
+pub never-due : (κ : Costs) (w : ℕ) (P : Stmt) → Timed P → (τ : Store) (t : ℕ) → ((t₀ : ℕ) (τ′ : Store) → Ends κ P τ t₀ τ′ → t₀ ≤ t → ⊥) → due κ w P τ t ≡ false
+never-due κ w P timed τ t h = by-bool (due κ w P τ t) (λ e. let g = due-ends κ w P timed τ t e in absurd (h (g .0) (g .1) (g .2) (g .3))) (λ e. e)
 
 -- a finish is due in the w instants from the end of a stand's run on, and at no other
 pub due-exactly : (w : ℕ) (P : Stmt) → Timed P → (st : Stand) (t : ℕ) → st .begun ≤ t → (dueAt w (record { within = λ τ k. run (imperative w) k P τ; anew = λ τ. τ }) st t ≡ true)
@@ -145,20 +146,34 @@ module _ (F : Format) (S : Program) (file : List ℕ) (X : OfProgram S file) (st
         last-words S (X .admitted) starts σ W (published S file X starts σ W o) (st .from) (st .begun) t (N .began) (omega arith) none t₀ σ′
         (at-end (imperative (S .pulse)) P (meaning-timed S (X .admitted)) (st .from) t₀ σ′ E) l
 
-    never : ((t₀ : ℕ) (σ′ : Store) → Ends (imperative (S .pulse)) P (st .from) t₀ σ′ → ⊥) → (t : ℕ) → st .begun ≤ t → level W fin t ≡ false
+    never : (t : ℕ) → st .begun ≤ t → ((t₀ : ℕ) (σ′ : Store) → Ends (imperative (S .pulse)) P (st .from) t₀ σ′ → st .begun + t₀ ≤ t → ⊥) → level W fin t ≡ false
     unfolding dueAt due
-    never h t l =
-        due-by t l (given-alone w rules (stateSize F net) starts st cs (N .given) (λ k u τ e. h u τ (run-ends (imperative (S .pulse)) P k (st .from) u τ e)) t)
-        ∙ never-due (imperative (S .pulse)) w P (meaning-timed S (X .admitted)) (st .from) h (t - st .begun)
+    never t l h =
+        let timed = meaning-timed S (X .admitted) in
+        due-by t l
+        (given-alone w rules (stateSize F net) starts st cs (N .given) t
+        (λ k u τ g e. let d = decides (imperative (S .pulse)) P timed (st .from) k u τ .0 e in h u τ (d .1) (omega (arith, g, d .0))))
+        ∙ never-due (imperative (S .pulse)) w P timed (st .from) (t - st .begun) (λ t₀ τ E g. h t₀ τ E (omega (arith, l, g)))
 
-    pub behaves : (r : Returned Answer) → Holding F net σ W (st .now) (r .lent) → Behaves F w P σ file rules starts W st r
-    behaves r H =
+    -- what an answer made from a state shows
+    pub shows-memories : (s : List ℕ) (n : ℕ) → Holding F net σ W (st .now) s → shows F file s n .words ≡ memoryWords (cellsOf file) 0 (λ k. W k (st .now))
+    unfolding shows
+    shows-memories s n H =
+        memory-same (cellsOf file) 0 (nowAt F s) (λ k. W k (st .now))
+        (λ i h.
+        let z : 0 + i ≡ i = omega arith in
+        rw z (H .body .present i h))
+
+    pub behaves : (r : Returned Answer) → Holding F net σ W (st .now) (r .lent)
+        → (verdict (r .answer .outcome) ≡ Accepted → r .answer .words ≡ memoryWords (cellsOf file) 0 (λ k. W k (st .now))) → Behaves F w P σ file rules starts W st r
+    behaves r H shown =
         record {
           begins = has-words (st .begun) (st .from) (N .began .stands .words);
           finishes = due-by;
           lasts = λ t₀ σ′ E t l none. has-words t σ′ (lasting t₀ σ′ E t l none);
           endless = never;
           buffer = holds F net (X .ofFile .ordered) starts σ W o (st .now) (r .lent) H;
+          answered = shown;
         }
 
     number-is : (s : List ℕ) → Holding F net σ W (st .now) s → flightOf s ≡ 0
@@ -203,5 +218,5 @@ module _ (F : Format) (S : Program) (file : List ℕ) (X : OfProgram S file) (st
           idle = idle-is b K;
           exact = exact-is b K;
           words = λ t₀ σ′ E l. (words-now t₀ σ′ E l b K, λ z. words-now t₀ σ′ E l s H .0);
-          endless = λ h. rw (H .body .present fin (X .ofFile .wire), never h (st .now) (N .given .since)) open-no-end;
+          endless = λ h. rw (H .body .present fin (X .ofFile .wire), never (st .now) (N .given .since) h) open-no-end;
         }

@@ -5,9 +5,9 @@ use mathlib.Core.Bool.{Bool, true, _&&_}
 use mathlib.Core.List.{List, [], _∷_, map}
 use Prim.Native.Nat.{ℕ, zero, suc, _+_, _*_, _/_, _%_, _≤_}
 use native.Mathlib.Omega.{arith}
-use lib.Dec.{eqb, ltb}
+use lib.Dec.{ltb}
 use lib.ListN.{length, replicate}
-use borrow.Author.Tests.{ltb-true, ltb-false, le-ltb}
+use borrow.Author.Tests.{ltb-true, le-ltb}
 use Rattle.model.specs.declared.Options.{Options}
 use Rattle.model.specs.declared.Checked.{Checked}
 use Rattle.model.specs.declared.Checked.the-variants.{Accepted}
@@ -17,19 +17,17 @@ use Rattle.model.specs.declared.Written.the-variants.{Done}
 use Rattle.model.specs.declared.Answer.{Answer}
 use Rattle.model.specs.Word.{get16, get32, Bytes}
 use Rattle.model.specs.Refusals.{first, refuse}
-use Rattle.model.specs.Program.{programOf}
 use Rattle.model.specs.ProgramChecks.{programWith}
-use Rattle.model.specs.NetlistFile.{netOf, blocksFor, fileCheck, cellsOf, fileLengthWrong}
+use Rattle.model.specs.NetlistFile.{netOf, blocksFor, fileCheck}
 use Rattle.model.specs.Numbering.{netlist, finish}
-use Rattle.model.specs.TimeTables.{builtIn, beside, load, defaults}
+use Rattle.model.specs.TimeTables.{load, defaults}
 use Rattle.model.specs.declared.Format.the-variants.{Full}
 use Rattle.model.specs.State.{stateSize}
 use Rattle.model.specs.Calls.{writtenVerdict, checkCall, writing, compiledFile, compileChecks, compileCall, runProgramCall, referenceCall, runProgramChecks}
 use Rattle.model.specs.Hubrun.{textOf, hubrunText}
 use Rattle.model.specs.RunPromises.{Seen}
 use Rattle.model.specs.Cases.{repeated, Case, ends, refuses, compiles, prints, passes, cases, start, hubrunInput, endAnswer, Result, ran, numbered, printed, checked, computed, wanted, OnCircuit, Hold, cases-by-rules}
-use Rattle.laws.specs.Refusals.Laws.{and-true, or-false, first-take, first-drop}
-use Rattle.laws.specs.NetlistFile.Passed.{file-passed, count-range, count-cells}
+use Rattle.laws.specs.Refusals.Laws.{and-true, first-take, first-drop}
 use Rattle.laws.specs.NetlistFile.Files.{cells-written, file-length}
 use Rattle.laws.specs.Numbering.Count.{fits}
 use Rattle.laws.specs.Program.Size.{few-nodes}
@@ -169,7 +167,7 @@ on-circuit (compiles p n f) e g = λ lent room.
     let end : finish S ≡ f = ap (λ r. numbers-of r .1) e in
     let size = file-length 1 (netlist S) (finish S) ∙ ap (λ k. 512 * blocksFor k) cells in
     let told = compile-is defaults p y (ap checked-of e) lent room ∙ ap₂ Done size end in
-    (told, ap length (demand2 .compiled (beside builtIn 0 1) p lent (512 * blocksFor n) f y told .cells) ∙ cells)
+    (told, ap length (demand2 .compiled defaults p lent (512 * blocksFor n) f y told .cells) ∙ cells)
 on-circuit (prints p v n text) e g =
     let b = and-true (bytesOnly p) (ltb n 65536) g in
     hubrun-is p v n

@@ -13,7 +13,6 @@ use Rattle.model.specs.Program.{programOf}
 use Rattle.model.specs.ProgramChecks.{programWith}
 use Rattle.model.specs.Numbering.{netlist, finish}
 use Rattle.model.specs.NetlistFile.{netOf, pulseOf, fileCheck, cellsOf, finishOf}
-use Rattle.model.specs.TimeTables.{load}
 use Rattle.model.specs.Calls.{compileCall, wordAt}
 use Rattle.model.specs.RefusalPromises.{Demand1}
 use Rattle.model.specs.CircuitPromises.{Published, Demand2}
@@ -28,6 +27,7 @@ use Rattle.laws.specs.Program.Passed.{accepted-pulse}
 use Rattle.laws.specs.NetlistFile.ReadWrite.{same-file}
 use Rattle.theory.specs.Refusals.Demand.{demand-1}
 use Rattle.theory.specs.Promises.Kept.{compiled, program-accepted, file-fits, file-made, begins, keeps}
+use Rattle.theory.specs.Promises.Answering.{answers, full-run}
 use Rattle.theory.specs.Promises.FullRuns.{full-runs}
 
 pub demand1 : Demand1
@@ -57,23 +57,25 @@ word-low words y x = omega (arith, y (2 * x), y (2 * x + 1))
 pub demand2 : Demand2
 demand2 =
     record {
-      compiled = λ G. unfold load in published (load G);
+      compiled = published;
       files = same-file;
       runs = λ file starts words pulse e. one-run (netOf file) (net-ordered (cellsOf file) (finishOf file) (file-passed file e .cells)) starts words pulse;
       numbers = λ F file lent starts e room.
           step-true F (netOf file) (net-ordered (cellsOf file) (finishOf file) (file-passed file e .cells)) starts lent (omega arith);
       bounded = λ file words y z e starts. file-bounded file y e starts (wordAt words) (word-low words z);
+      answers = answers;
+      fullRuns = full-run;
     }
 
 pub demand3 : Demand3
-unfolding load programOf
+unfolding programOf
 demand3 =
     record {
-      lists = λ F G program forFile words forState calls n f made begun.
-          let file = take n (compileCall (load G) program forFile .lent) in
-          keeps F (programWith (load G) program) file words forState
-          (begins F (load G) program file words forState (program-accepted (load G) program forFile n f made) (file-made (load G) program forFile n f made) begun) calls;
-      fullRuns = λ G program forFile words forState n f made begun.
-          full-runs (load G) program (take n (compileCall (load G) program forFile .lent)) words forState (program-accepted (load G) program forFile n f made)
-          (file-made (load G) program forFile n f made) begun forFile (file-fits (load G) program forFile n f made);
+      lists = λ F options program forFile words forState calls n f made begun.
+          let file = take n (compileCall options program forFile .lent) in
+          keeps F (programWith options program) file words forState
+          (begins F options program file words forState (program-accepted options program forFile n f made) (file-made options program forFile n f made) begun) calls;
+      fullRuns = λ options program forFile words forState n f made begun.
+          full-runs options program (take n (compileCall options program forFile .lent)) words forState (program-accepted options program forFile n f made)
+          (file-made options program forFile n f made) begun forFile (file-fits options program forFile n f made);
     }

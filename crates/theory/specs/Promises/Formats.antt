@@ -1,14 +1,13 @@
 -- A full and a compact state of one run show the same wires at every instant, and their calls give the same answers: both hold the same values.
 -- So no compiled program meets 26.
 -- Assumes nothing.
-use mathlib.Core.Path.{_≡_, refl, sym, _∙_, ap, ap₂, subst}
+use mathlib.Core.Path.{_≡_, refl, sym, _∙_, ap, subst}
 use mathlib.Core.Bool.{Bool, true, false, _&&_}
 use mathlib.Core.List.{List, [], _∷_, map}
-use Prim.Native.Nat.{ℕ, suc, _+_, _-_, _*_, _/_, _%_, _<_, _≤_, suc-le-suc}
-use native.Mathlib.Nat.{add-zero}
+use Prim.Native.Nat.{ℕ, suc, _+_, _-_, _*_, _/_, _%_, _≤_}
 use native.Mathlib.Omega.{arith}
-use lib.Dec.{ltb, eqb}
-use lib.ListN.{length, take, replicate}
+use lib.Dec.{ltb}
+use lib.ListN.{take, replicate}
 use Rattle.model.specs.declared.Cell.{Cell}
 use Rattle.model.specs.declared.Format.{Format}
 use Rattle.model.specs.declared.Format.the-variants.{Full, Compact}
@@ -23,41 +22,49 @@ use Rattle.model.specs.ProgramChecks.{programWith}
 use Rattle.model.specs.Rules.{imperative, Store, Run, done, atEnd, atExit, still, run}
 use Rattle.model.specs.Circuit.{Netlist, Sig, Values, high, memoryWords, Obeys}
 use Rattle.model.specs.NetlistFile.{cellsOf, netOf, finishOf}
-use Rattle.model.specs.TimeTables.{load}
 use Rattle.model.specs.State.{instantOf, stateSize, nowAt, wordsIn}
 use Rattle.model.specs.Calls.{Returned, verdict, compileCall, wordAt, refusedAnswer, shows, beginCall}
-use Rattle.model.specs.CircuitPromises.{stopsAt}
-use Rattle.model.specs.RunPromises.{Request, continuing, start, Call, replay, Seen, seen, seenOf, endedIf, Stand, stand, Runs, dueAt, Next, refuses, pulsed, afterRequest, next, expected, stands, startsOf, Along}
-use Rattle.model.specs.FormatPromises.{Alike, AllSame, each, SameWires}
+use Rattle.model.specs.CircuitPromises.{stopsAt, endedIf}
+use Rattle.model.specs.RunPromises.{Request, continuing, start, Call, replay, Seen, seen, seenOf, Stand, stand, Runs, dueAt, Next, refuses, pulsed, afterRequest, next, expected, stands, startsOf, Along}
+use Rattle.model.specs.FormatPromises.{Twice, onFull, onCompact, Fair, Alike, AllSame, SameWires}
 use Rattle.laws.specs.Refusals.Laws.{by-le}
 use Rattle.laws.specs.Circuit.Ordered.{Ordered}
 use Rattle.theory.specs.Circuit.Exists.{solution, solution-obeys}
 use Rattle.theory.specs.State.Holding.{Holding}
 use Rattle.theory.specs.State.Flight.{number-is}
+use Rattle.theory.specs.Promises.Answers.{memory-same}
 use Rattle.theory.specs.Promises.Stands.{anew, next-short, next-long, continues-late, continues-now, start-late, start-now, Given, given-first}
 use Rattle.theory.specs.Promises.Replay.{at0}
-use Rattle.theory.specs.Promises.Kept.{program-accepted, file-made, Begun, begins, room, along, told}
+use Rattle.theory.specs.Promises.Kept.{program-accepted, file-made, Begun, begins, along, told}
 
 -- Where lists of requests stand ----------------------------------------------------------------------------------------------------------
 
 -- with buffers that are lent whole, the size of a state makes no difference
-module _ (w : ℕ) (rules : Runs) (size₁ n₁ size₂ n₂ : ℕ) (whole₁ : size₁ ≤ n₁) (whole₂ : size₂ ≤ n₂) where
-  next-same : (st : Stand) (q : Request) → next w rules size₁ st (record { request = q; lent = n₁ }) ≡ next w rules size₂ st (record { request = q; lent = n₂ })
-  next-same st q = next-long w rules size₁ st (record { request = q; lent = n₁ }) whole₁ ∙ sym (next-long w rules size₂ st (record { request = q; lent = n₂ }) whole₂)
+-- the call on a full state, and that on a compact one
+abbrev fullCall : Twice → Call
+fullCall c = record { request = c .request; lent = c .full }
 
-  stands-same : (qs : List Request) (st : Stand) → stands w rules size₁ st (each n₁ qs) ≡ stands w rules size₂ st (each n₂ qs)
+abbrev compactCall : Twice → Call
+compactCall c = record { request = c .request; lent = c .compact }
+
+module _ (w : ℕ) (rules : Runs) (full compact : ℕ) where
+  next-same : (st : Stand) (c : Twice) → ltb (c .full) full ≡ ltb (c .compact) compact → next w rules full st (fullCall c) ≡ next w rules compact st (compactCall c)
+  unfolding next
+  next-same st c e = ap (λ (b : Bool). elim b as (λ z. Next) [ true ↦ refuses 14 st | false ↦ afterRequest w rules st (c .request) ]) e
+
+  stands-same : (cs : List Twice) → Fair full compact cs → (st : Stand) → stands w rules full st (onFull cs) ≡ stands w rules compact st (onCompact cs)
   unfolding stands
-  stands-same [] st = refl
-  stands-same (q ∷ qs) st =
-      ap (λ (x : Next). x .after ∷ stands w rules size₁ (x .after) (each n₁ qs)) (next-same st q)
-      ∙ ap (λ (sts : List Stand). next w rules size₂ st (record { request = q; lent = n₂ }) .after ∷ sts) (stands-same qs _)
+  stands-same [] fair st = refl
+  stands-same (c ∷ cs) fair st =
+      ap (λ (x : Next). x .after ∷ stands w rules full (x .after) (onFull cs)) (next-same st c (fair .0))
+      ∙ ap (λ (sts : List Stand). next w rules compact st (compactCall c) .after ∷ sts) (stands-same cs (fair .1) _)
 
-  expected-same : (qs : List Request) (st : Stand) → expected w rules size₁ st (each n₁ qs) ≡ expected w rules size₂ st (each n₂ qs)
+  expected-same : (cs : List Twice) → Fair full compact cs → (st : Stand) → expected w rules full st (onFull cs) ≡ expected w rules compact st (onCompact cs)
   unfolding expected
-  expected-same [] st = refl
-  expected-same (q ∷ qs) st =
-      ap (λ (x : Next). x .tells ∷ expected w rules size₁ (x .after) (each n₁ qs)) (next-same st q)
-      ∙ ap (λ (l : List Seen). next w rules size₂ st (record { request = q; lent = n₂ }) .tells ∷ l) (expected-same qs _)
+  expected-same [] fair st = refl
+  expected-same (c ∷ cs) fair st =
+      ap (λ (x : Next). x .tells ∷ expected w rules full (x .after) (onFull cs)) (next-same st c (fair .0))
+      ∙ ap (λ (l : List Seen). next w rules compact st (compactCall c) .tells ∷ l) (expected-same cs (fair .1) _)
 
 -- What a list tells is never 26 ----------------------------------------------------------------------------------------------------------
 
@@ -110,16 +117,6 @@ all-unmet w rules size [] st = tt
 all-unmet w rules size (c ∷ cs) st = (unmet-next w rules size st c, all-unmet w rules size cs _)
 
 -- What calls show, from the values -------------------------------------------------------------------------------------------------------
-
-memory-same : (cs : List Cell) (k : ℕ) (v w : ℕ → ℕ) → ((i : ℕ) → i < length cs → v (k + i) ≡ w (k + i)) → memoryWords cs k v ≡ memoryWords cs k w
-unfolding memoryWords
-memory-same [] k v w h = refl
-memory-same (c ∷ cs) k v w h =
-    ap₂ (λ (x : ℕ) (l : List ℕ). pick (eqb (c .kind) 40) (x ∷ l) l) (rw add-zero at (h 0 (omega arith)))
-    (memory-same cs (k + 1) v w
-    (λ i l.
-    let e : k + 1 + i ≡ k + suc i = omega arith in
-    rw e (h (suc i) (suc-le-suc l))))
 
 -- an answer shows these words, unless it is a refusal
 wordsShown : Outcome → List ℕ → List ℕ
@@ -210,7 +207,7 @@ module _ (net : Netlist) (σ : Store) (W : Values) where
 -- The promise ----------------------------------------------------------------------------------------------------------------------------
 
 module _ (S : Program) (file words forFull forCompact : List ℕ) (B : Begun Full S file words forFull) (C : Begun Compact S file words forCompact)
-    (requests : List Request) where
+    (cs : List Twice) (fair : Fair (stateSize Full (netOf file)) (stateSize Compact (netOf file)) cs) where
   abbrev w : ℕ
   w = S .pulse
 
@@ -224,20 +221,17 @@ module _ (S : Program) (file words forFull forCompact : List ℕ) (B : Begun Ful
   rules = record { within = λ τ k. run (imperative (S .pulse)) k (meaning S) τ; anew = λ τ. τ }
 
   -- the calls on a buffer in this format
-  abbrev calls : Format → List ℕ → List (Returned Answer)
-  calls F lent = beginCall F file words lent ∷ replay F file (beginCall F file words lent .lent) (each (length lent) requests)
+  abbrev calls : Format → List ℕ → List Call → List (Returned Answer)
+  calls F lent on = beginCall F file words lent ∷ replay F file (beginCall F file words lent .lent) on
 
-  abbrev sts : Format → ℕ → List Stand
-  sts F n = stand 0 σ 0 ∷ stands w rules (stateSize F net) (stand 0 σ 0) (each n requests)
+  abbrev sts : Format → List Call → List Stand
+  sts F on = stand 0 σ 0 ∷ stands w rules (stateSize F net) (stand 0 σ 0) on
 
-  same-sts : sts Compact (length forCompact) ≡ sts Full (length forFull)
-  same-sts =
-      ap (λ (l : List Stand). stand 0 σ 0 ∷ l)
-      (stands-same w rules (stateSize Compact net) (length forCompact) (stateSize Full net) (length forFull) (room Compact S file words forCompact C)
-      (room Full S file words forFull B) requests (stand 0 σ 0))
+  same-sts : sts Compact (onCompact cs) ≡ sts Full (onFull cs)
+  same-sts = ap (λ (l : List Stand). stand 0 σ 0 ∷ l) (sym (stands-same w rules (stateSize Full net) (stateSize Compact net) cs fair (stand 0 σ 0)))
 
   abbrev starts : Sig
-  starts = startsOf (sts Full (length forFull))
+  starts = startsOf (sts Full (onFull cs))
 
   W : Values
   W = solution net starts σ
@@ -250,46 +244,45 @@ module _ (S : Program) (file words forFull forCompact : List ℕ) (B : Begun Ful
   unfolding startsOf
   first-pulse = refl
 
-  given-compact : Given w rules (stateSize Compact net) starts (stand 0 σ 0) (each (length forCompact) requests)
+  given-compact : Given w rules (stateSize Compact net) starts (stand 0 σ 0) (onCompact cs)
   given-compact =
-      subst (λ (l : List Stand). Given w rules (stateSize Compact net) (startsOf l) (stand 0 σ 0) (each (length forCompact) requests)) same-sts
-      (given-first w rules (stateSize Compact net) σ (each (length forCompact) requests))
+      subst (λ (l : List Stand). Given w rules (stateSize Compact net) (startsOf l) (stand 0 σ 0) (onCompact cs)) same-sts
+      (given-first w rules (stateSize Compact net) σ (onCompact cs))
 
-  shown-full : Along (Shown net σ W Full) (sts Full (length forFull)) (calls Full forFull)
+  shown-full : Along (Shown net σ W Full) (sts Full (onFull cs)) (calls Full forFull (onFull cs))
   shown-full =
-      along Full S file words forFull B starts W obeys (each (length forFull) requests) (given-first w rules (stateSize Full net) σ (each (length forFull) requests)) first-pulse
+      along Full S file words forFull B starts W obeys (onFull cs) (given-first w rules (stateSize Full net) σ (onFull cs)) first-pulse
       (Shown net σ W Full) (λ st cs N k b l H. shown-refused net σ W Full st k b l H) (λ st cs N s b n l H K. shown-answer net σ W Full file refl st s b n l H K)
 
-  shown-compact : Along (Shown net σ W Compact) (sts Full (length forFull)) (calls Compact forCompact)
+  shown-compact : Along (Shown net σ W Compact) (sts Full (onFull cs)) (calls Compact forCompact (onCompact cs))
   shown-compact =
-      subst (λ (l : List Stand). Along (Shown net σ W Compact) l (calls Compact forCompact)) same-sts
-      (along Compact S file words forCompact C starts W obeys (each (length forCompact) requests) given-compact first-pulse
+      subst (λ (l : List Stand). Along (Shown net σ W Compact) l (calls Compact forCompact (onCompact cs))) same-sts
+      (along Compact S file words forCompact C starts W obeys (onCompact cs) given-compact first-pulse
       (Shown net σ W Compact) (λ st cs N k b l H. shown-refused net σ W Compact st k b l H) (λ st cs N s b n l H K. shown-answer net σ W Compact file refl st s b n l H K))
 
-  abbrev tellsOf : Format → ℕ → List Seen
-  tellsOf F n = seen (endedIf (dueAt w rules (stand 0 σ 0) 0)) 0 1 ∷ expected w rules (stateSize F net) (stand 0 σ 0) (each n requests)
+  abbrev tellsOf : Format → List Call → List Seen
+  tellsOf F on = seen (endedIf (dueAt w rules (stand 0 σ 0) 0)) 0 1 ∷ expected w rules (stateSize F net) (stand 0 σ 0) on
 
-  same-tells : tellsOf Full (length forFull) ≡ tellsOf Compact (length forCompact)
+  same-tells : tellsOf Full (onFull cs) ≡ tellsOf Compact (onCompact cs)
   same-tells =
       ap (λ (l : List Seen). seen (endedIf (dueAt w rules (stand 0 σ 0) 0)) 0 1 ∷ l)
-      (expected-same w rules (stateSize Full net) (length forFull) (stateSize Compact net) (length forCompact) (room Full S file words forFull B)
-      (room Compact S file words forCompact C) requests (stand 0 σ 0))
+      (expected-same w rules (stateSize Full net) (stateSize Compact net) cs fair (stand 0 σ 0))
 
-  unmet : AllUnmet (tellsOf Compact (length forCompact))
-  unmet = (unmet-ended (dueAt w rules (stand 0 σ 0) 0) 0 1, all-unmet w rules (stateSize Compact net) (each (length forCompact) requests) (stand 0 σ 0))
+  unmet : AllUnmet (tellsOf Compact (onCompact cs))
+  unmet = (unmet-ended (dueAt w rules (stand 0 σ 0) 0) 0 1, all-unmet w rules (stateSize Compact net) (onCompact cs) (stand 0 σ 0))
 
-  both-same : AllSame net (calls Full forFull) (calls Compact forCompact)
+  both-same : AllSame net (calls Full forFull (onFull cs)) (calls Compact forCompact (onCompact cs))
   both-same =
-      let full = told Full S file words forFull B (each (length forFull) requests) in
-      let compact = told Compact S file words forCompact C (each (length forCompact) requests) in
-      all-same net σ W (B .ofProgram .ofFile .ordered) (sts Full (length forFull)) (calls Full forFull) (calls Compact forCompact) shown-full shown-compact (full ∙ same-tells ∙ sym compact)
+      let full = told Full S file words forFull B (onFull cs) in
+      let compact = told Compact S file words forCompact C (onCompact cs) in
+      all-same net σ W (B .ofProgram .ofFile .ordered) (sts Full (onFull cs)) (calls Full forFull (onFull cs)) (calls Compact forCompact (onCompact cs)) shown-full shown-compact (full ∙ same-tells ∙ sym compact)
       (subst AllUnmet (sym compact) unmet)
 
 pub same-wires : SameWires
-unfolding SameWires load
-same-wires G program forFile words forFull forCompact requests n f made full compact =
-    let file = take n (compileCall (load G) program forFile .lent) in
-    let good = program-accepted (load G) program forFile n f made in
-    let written = file-made (load G) program forFile n f made in
-    both-same (programWith (load G) program) file words forFull forCompact (begins Full (load G) program file words forFull good written full)
-    (begins Compact (load G) program file words forCompact good written compact) requests
+unfolding SameWires
+same-wires options program forFile words forFull forCompact calls n f made full compact fair =
+    let file = take n (compileCall options program forFile .lent) in
+    let good = program-accepted options program forFile n f made in
+    let written = file-made options program forFile n f made in
+    both-same (programWith options program) file words forFull forCompact (begins Full options program file words forFull good written full)
+    (begins Compact options program file words forCompact good written compact) calls fair

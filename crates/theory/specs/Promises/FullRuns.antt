@@ -5,10 +5,10 @@ use mathlib.Core.Bool.{Bool, true, false}
 use mathlib.Core.List.{List, []}
 use Prim.Native.Nat.{ℕ, zero, suc, _+_, _-_, _<_, _≤_}
 use native.Mathlib.Omega.{arith}
-use native.Mathlib.Decide.{ℕ-discrete, decLt}
-use lib.Dec.{eqb, ltb}
+use native.Mathlib.Decide.{ℕ-discrete}
+use lib.Dec.{ltb}
 use lib.ListN.{length}
-use borrow.Author.Tests.{le-ltb, eq-eqb, ne-eqb, lt-ltb}
+use borrow.Author.Tests.{le-ltb, ne-eqb, lt-ltb}
 use Rattle.model.specs.declared.Cell.{Cell}
 use Rattle.model.specs.declared.Format.the-variants.{Full}
 use Rattle.model.specs.declared.Options.{Options}
@@ -25,25 +25,24 @@ use Rattle.model.specs.Rules.{imperative, Store, ended, still, run, showsAt, du
 use Rattle.model.specs.Circuit.{Netlist, Sig, Values, high, level, Obeys}
 use Rattle.model.specs.Numbering.{memoryAt}
 use Rattle.model.specs.NetlistFile.{cellsOf, netOf, finishOf}
-use Rattle.model.specs.State.{instantOf, Course, stateSize, nowAt, beginState, continued, wordsIn}
-use Rattle.model.specs.Calls.{Returned, verdict, checkCall, compiledFile, wordAt, shows, running, tooLong, beginCall, continueChecks, continueCall, fullState, fullCount, runNetlistCall, runProgramChecks, runProgramCall, listed, referenceAnswer}
-use Rattle.model.specs.CircuitPromises.{stopsAt, NoStart}
-use Rattle.model.specs.RunPromises.{seen, stand, Runs, dueAt, stands, startsOf, lastOf, FullRuns}
+use Rattle.model.specs.State.{Course, stateSize, nowAt, beginState, continued, wordsIn}
+use Rattle.model.specs.Calls.{Returned, verdict, checkCall, compiledFile, wordAt, shows, running, beginCall, continueCall, fullState, fullCount, runNetlistCall, runProgramChecks, runProgramCall, listed, referenceAnswer, overwrite, writing, ReturnedBoth}
+use Rattle.model.specs.CircuitPromises.{stopsAt, NoStart, wholeOf}
+use Rattle.model.specs.RunPromises.{seen, stand, Runs, dueAt, stands, startsOf, FullRuns}
 use Rattle.laws.specs.Refusals.Laws.{by-bool, first-drop}
 use Rattle.laws.specs.Numbering.Parts.{net-length}
 use Rattle.laws.specs.Program.Fit.{Timed}
 use Rattle.laws.specs.Program.Admitted.{meaning-timed}
 use Rattle.laws.specs.Rules.Laws.{steady, still-before, still-below}
-use Rattle.laws.specs.State.Continuing.{full-free}
 use Rattle.theory.specs.Rules.Relation.{run-ends}
 use Rattle.theory.specs.State.Holding.{Holding}
-use Rattle.theory.specs.State.Sound.{sound-held}
-use Rattle.theory.specs.State.Running.{continues, stops-high, stops-low}
+use Rattle.theory.specs.State.Running.{continues, stops-high, stops-low, stops-within}
 use Rattle.theory.specs.Promises.Answers.{listed-same, memory-words}
 use Rattle.theory.specs.Promises.Stands.{Given}
-use Rattle.theory.specs.Promises.Replay.{accepted-going, checked}
+use Rattle.theory.specs.Promises.Replay.{no-refusal}
 use Rattle.theory.specs.Promises.Served.{OfProgram}
 use Rattle.theory.specs.Promises.Behaves.{shows-words, Stood, due-by, lasting}
+use Rattle.theory.specs.Promises.Answering.{full-run}
 use Rattle.theory.specs.Promises.Kept.{Begun, begins, stood, holding, long, starts, pulse, given, W, obeys}
 
 -- Where a run stops --------------------------------------------------------------------------------------------------------------------
@@ -63,13 +62,6 @@ unfolding stopsAt
 stops-never F zero a h = omega arith
 stops-never F (suc n) a h =
     stops-low F a n (h (suc a) (omega arith) (omega arith)) ∙ stops-never F n (suc a) (λ u l k. h u (omega arith) (omega arith)) ∙ omega arith
-
--- and not further
-stops-within : (F : ℕ → Bool) (n a : ℕ) → stopsAt F a n ≤ a + n
-unfolding stopsAt
-stops-within F zero a = omega arith
-stops-within F (suc n) a =
-    by-bool (F (suc a)) (λ e. omega (arith, stops-high F a n e)) (λ e. omega (arith, stops-low F a n e, stops-within F n (suc a)))
 
 -- Full runs ----------------------------------------------------------------------------------------------------------------------------
 
@@ -148,41 +140,48 @@ module _ (options : Options) (program file words lent : List ℕ) (accepted : ch
   pub whole-run : ℕ → Answer
   whole-run n = shows Full file (fullState file words n lent) (fullCount file words n lent)
 
-  continue-is : (n : ℕ) → n ≤ 1000000 → continueCall Full file n state .answer ≡ shows Full file (on n .state) (on n .count)
-  unfolding continueCall
-  continue-is n l =
-      ap (λ (r : Returned Answer). r .answer)
-      (accepted-going Full (first (continueChecks Full file n state)) file (on n) state
-      (checked Full file (X .ofFile .accepted) (unfold tooLong in refl) n state [] false true false (le-ltb (length state) (stateSize Full net) first-long)
-      (sound-held Full net (X .ofFile .ordered) starts₁ σ W₁ obeys₁ 0 state first-holds)
-      (le-ltb 1000000 (instantOf state + n) (rw (first-holds .instant (omega arith)) (omega arith))))
-      (full-free net fin n state))
+  -- what it leaves in its state
+  abbrev left : ℕ → List ℕ
+  left n = fullState file words n lent
 
-  last-is : (n : ℕ) → n ≤ 1000000
-      → whole-run n
-      ≡ lastOf (beginCall Full file words lent .answer .outcome) (beginCall Full file words lent .answer) (continueCall Full file n (beginCall Full file words lent .lent) .answer)
-  unfolding whole-run fullState fullCount shows lastOf
-  last-is n l = rw (B .is, continue-is n l) (by-bool (high (nowAt Full state fin)) (λ z. rw (z, z) refl) (λ z. rw z refl))
+  netlist-run : (n : ℕ) → n ≤ 1000000 → runNetlistCall file words n lent ≡ record { answer = whole-run n; lent = left n }
+  unfolding runNetlistCall running whole-run
+  netlist-run n l = rw (X .ofFile .accepted, le-ltb 1000000 n l, B .words-fit, B .state-fits)
 
-  pub program-run : (forFile : List ℕ) → ltb (length forFile) (length (compiledFile options program)) ≡ false → (n : ℕ) → n ≤ 1000000
-      → runProgramCall options program words n forFile lent .answer ≡ whole-run n
-  unfolding runProgramCall running whole-run checkCall
-  program-run forFile fits n l =
+  whole-is : (n : ℕ) → n ≤ 1000000 → runNetlistCall file words n lent
+      ≡ wholeOf (beginCall Full file words lent .answer .outcome) (beginCall Full file words lent) (continueCall Full file n (beginCall Full file words lent .lent))
+  unfolding whole-run shows
+  whole-is n l =
+      full-run file words lent n
+      (ap (λ (r : Returned Answer). verdict (r .answer .outcome)) (netlist-run n l) ∙ no-refusal (high (nowAt Full (left n) fin)))
+
+  program-runs : (forFile : List ℕ) → ltb (length forFile) (length (compiledFile options program)) ≡ false → (n : ℕ) → n ≤ 1000000
+      → runProgramCall options program words n forFile lent ≡ record { answer = whole-run n; netlist = overwrite file forFile; state = left n }
+  unfolding runProgramCall running writing whole-run checkCall
+  program-runs forFile fits n l =
       let room : ltb (length lent) (stateSize Full (netOf (compiledFile options program))) ≡ false =
       subst (λ (s : List ℕ). ltb (length lent) (stateSize Full (netOf s)) ≡ false) e (B .state-fits) in
       let checks : first (runProgramChecks options program words n forFile lent) ≡ Accepted =
       first-drop 2 (runProgramChecks options program words n forFile lent) accepted ∙ rw (le-ltb 1000000 n l, B .words-fit, fits, room) refl in
-      ap₂ (λ (c : Checked) (s : List ℕ). running Full c s (fullState s words n lent) (fullCount s words n lent) lent .answer) checks (sym e)
+      ap₂
+      (λ (c : Checked) (s : List ℕ).
+      let r = running Full c s (fullState s words n lent) (fullCount s words n lent) lent in
+      record { answer = r .answer; netlist = writing c s (length s) 0 forFile .lent; state = r .lent })
+      checks (sym e)
 
-  netlist-run : (n : ℕ) → n ≤ 1000000 → runNetlistCall file words n lent .answer ≡ whole-run n
-  unfolding runNetlistCall running whole-run
-  netlist-run n l = rw (X .ofFile .accepted, le-ltb 1000000 n l, B .words-fit, B .state-fits)
+  pub program-run : (forFile : List ℕ) → ltb (length forFile) (length (compiledFile options program)) ≡ false → (n : ℕ) → n ≤ 1000000
+      → runProgramCall options program words n forFile lent .answer ≡ whole-run n
+  program-run forFile fits n l = ap (λ (r : ReturnedBoth). r .answer) (program-runs forFile fits n l)
 
   pub full-runs : (forFile : List ℕ) → ltb (length forFile) (length (compiledFile options program)) ≡ false
-      → FullRuns file (beginCall Full file words lent) (λ k. runProgramCall options program words k forFile lent .answer)
-      (λ k. runNetlistCall file words k lent .answer)
+      → FullRuns file forFile (beginCall Full file words lent) (λ k. runProgramCall options program words k forFile lent) (λ k. runNetlistCall file words k lent)
   full-runs forFile fits =
-      record { programRuns = λ n l. program-run forFile fits n l ∙ last-is n l; netlistRuns = λ n l. netlist-run n l ∙ last-is n l }
+      record {
+        programRuns = λ n l.
+            program-runs forFile fits n l
+            ∙ ap (λ (r : Returned Answer). record { answer = r .answer; netlist = overwrite file forFile; state = r .lent }) (sym (netlist-run n l) ∙ whole-is n l);
+        netlistRuns = whole-is;
+      }
 
   -- By the values: it answers what they are at the instant at which it stops
   abbrev stop : ℕ → ℕ

@@ -1,40 +1,38 @@
 -- Gates that take their time: the slow run of an accepted program exists and is one, agrees with the ideal run, and answers as a full run does.
 -- Assumes nothing.
-use mathlib.Core.Path.{_≡_, refl, sym, _∙_, ap, ap₂, subst}
+use mathlib.Core.Path.{_≡_, refl, sym, _∙_, ap, subst}
 use mathlib.Core.Bool.{Bool, true, false, _||_}
 use mathlib.Core.List.{List, [], _∷_}
 use Prim.Native.Nat.{ℕ, zero, suc, _+_, _<_, _≤_}
 use native.Mathlib.Omega.{arith}
 use native.Mathlib.Decide.{ℕ-discrete}
-use lib.Dec.{eqb, ltb}
+use lib.Dec.{eqb}
 use lib.ListN.{length}
 use borrow.Author.Tests.{eqb-true, eq-eqb, ne-eqb, ltb-false}
 use Rattle.model.specs.declared.Cell.{Cell}
 use Rattle.model.specs.declared.Format.the-variants.{Full}
 use Rattle.model.specs.declared.Options.{Options}
-use Rattle.model.specs.declared.Checked.{Checked}
 use Rattle.model.specs.declared.Checked.the-variants.{Accepted}
 use Rattle.model.specs.declared.Outcome.the-variants.{Ended, Open}
-use Rattle.model.specs.declared.Answer.{Answer}
 use Rattle.model.specs.Word.{pick, Bytes}
 use Rattle.model.specs.Refusals.{first}
 use Rattle.model.specs.Program.{Program, programOf, roots, timeIn}
 use Rattle.model.specs.Procedures.{bodyAt}
 use Rattle.model.specs.ProgramChecks.{programWith}
 use Rattle.model.specs.Rules.{Store}
-use Rattle.model.specs.Circuit.{cellAt, Sig, Values, control, level, shape, memoryWords, memories, Obeys}
+use Rattle.model.specs.Circuit.{cellAt, Sig, Values, control, level, shape, memoryWords, Obeys}
 use Rattle.model.specs.Numbering.{netlist, circuitOf, finish, memoryAt, dataAt, procedures}
-use Rattle.model.specs.NetlistFile.{cellsOf, finishOf}
+use Rattle.model.specs.NetlistFile.{finishOf}
 use Rattle.model.specs.TimeTables.{beside, load}
 use Rattle.model.specs.Calls.{verdict, checkCall, compiledFile, wordAt, beginCall, fullState, fullCount, runProgramChecks, runProgramCall, listed}
 use Rattle.model.specs.CircuitPromises.{stopsAt}
 use Rattle.model.specs.RunPromises.{stand, stands, startsOf}
 use Rattle.model.specs.Gates.{firstStart, ObeysSlowly, slowly, endAt, slowAnswer, withPulse, slowRunChecks, slowRunning, slowRunCall}
 use Rattle.model.specs.GatePromises.{seen, Agrees, Gates}
-use Rattle.laws.specs.Refusals.Laws.{by-bool, by-le, not-both, refuse-unless, all-accept, accept-take}
+use Rattle.laws.specs.Refusals.Laws.{by-bool, refuse-unless, all-accept}
 use Rattle.laws.specs.Program.Fit.{Covered, EveryRoot, Numberable}
 use Rattle.laws.specs.Program.Accepted.{body-root, program-covered}
-use Rattle.laws.specs.Program.Admitted.{program-admitted, main-root, root-count}
+use Rattle.laws.specs.Program.Admitted.{program-admitted, main-root}
 use Rattle.laws.specs.Program.Size.{program-numberable}
 use Rattle.laws.specs.Numbering.Parts.{net-length}
 use Rattle.laws.specs.Numbering.Compiled.{net-accepted, finish-ok, memory-kinds}

@@ -28,8 +28,9 @@ use Rattle.model.specs.Numbering.{netlist, finish}
 use Rattle.model.specs.NetlistFile.{fileCheck, cellsOf, netOf, finishOf, pulseOf}
 use Rattle.model.specs.State.{stateSize, beginState}
 use Rattle.model.specs.Calls.{Returned, verdict, checkCall, compiledFile, compileChecks, compileCall, wordAt, refusedAnswer, shows, running, tooLong, beginChecks, beginCall}
-use Rattle.model.specs.RunPromises.{Call, replay, Seen, seen, seenOf, endedIf, Stand, stand, Runs, dueAt, expected, stands, startsOf, Along, Behaves, Tells, Unchanged, Keeps}
-use Rattle.laws.specs.Refusals.Laws.{all-accept, refuse-unless, accept-take}
+use Rattle.model.specs.CircuitPromises.{endedIf}
+use Rattle.model.specs.RunPromises.{Call, replay, Seen, seen, seenOf, Stand, stand, Runs, dueAt, expected, stands, startsOf, Along, Behaves, Tells, Unchanged, Keeps}
+use Rattle.laws.specs.Refusals.Laws.{not-refused, all-accept, refuse-unless, accept-take}
 use Rattle.laws.specs.Program.Passed.{accepted-pulse}
 use Rattle.laws.specs.Program.Admitted.{program-admitted, meaning-timed}
 use Rattle.laws.specs.Numbering.Parts.{net-length}
@@ -44,7 +45,7 @@ use Rattle.theory.specs.Promises.Due.{run-first}
 use Rattle.theory.specs.Promises.Stands.{Given, given-first}
 use Rattle.theory.specs.Promises.Served.{OfProgram, published, served}
 use Rattle.theory.specs.Promises.Replay.{at0, asCalled, Good, good, answer-seen}
-use Rattle.theory.specs.Promises.Behaves.{decides, due-exactly, Stood, behaves, tells-refused, tells-answer}
+use Rattle.theory.specs.Promises.Behaves.{decides, due-exactly, Stood, shows-memories, behaves, tells-refused, tells-answer}
 
 -- Calls that are not refused -----------------------------------------------------------------------------------------------------------
 
@@ -230,8 +231,8 @@ module _ (F : Format) (S : Program) (file words lent : List ℕ) (B : Begun F S 
         → Along (Behaves F w P σ file rules starts W) (stand 0 σ 0 ∷ stands w rules size (stand 0 σ 0) calls)
         (beginCall F file words lent ∷ replay F file (beginCall F file words lent .lent) calls)
     circuit W o =
-        along starts W o calls given pulse (Behaves F w P σ file rules starts W) (λ st cs N k b l H. behaves F S file X starts σ W o st cs N _ H)
-        (λ st cs N s b n l H K. behaves F S file X starts σ W o st cs N _ K)
+        along starts W o calls given pulse (Behaves F w P σ file rules starts W) (λ st cs N k b l H. behaves F S file X starts σ W o st cs N _ H (λ z. unfold verdict in not-refused z))
+        (λ st cs N s b n l H K. behaves F S file X starts σ W o st cs N _ K (λ z. shows-memories F S file X starts σ W o st cs N s n H))
 
     pub told : map seenOf (beginCall F file words lent ∷ replay F file (beginCall F file words lent .lent) calls)
         ≡ seen (endedIf (dueAt w rules (stand 0 σ 0) 0)) 0 1 ∷ expected w rules size (stand 0 σ 0) calls

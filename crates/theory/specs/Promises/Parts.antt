@@ -20,13 +20,13 @@ use Rattle.model.specs.ProgramChecks.{programWith, checkOf}
 use Rattle.model.specs.Numbering.{finish}
 use Rattle.model.specs.NetlistFile.{fileCheck}
 use Rattle.model.specs.Text.{same}
-use Rattle.model.specs.TimeTables.{Given, load, givenChecks, givenCheck}
+use Rattle.model.specs.TimeTables.{Given, beside, load, givenChecks, givenCheck}
 use Rattle.model.specs.Calls.{verdict, short, checkCall, compiledFile, compileCall, wordAt, beginCall, runNetlistCall, runProgramCall, writtenVerdict}
 use Rattle.model.specs.RefusalPromises.{InOrder, just, Refuses, Leaves}
 use Rattle.model.specs.CircuitPromises.{Published}
 use Rattle.model.specs.RunPromises.{Call, Keeps, FullRuns}
 use Rattle.model.specs.PartCalls.{Part, partAt, wholeProgram, besidePart, besideWhole, ownChecks, nodesUpTo, nodesFault, pulseFault, otherFault, jointChecks, partChecks, wholeFile, joinChecks, joinCall}
-use Rattle.model.specs.PartPromises.{givenPart, givenWhole, joinedProgram, EachPart, Joinable, ownNumbers, Joins}
+use Rattle.model.specs.PartPromises.{joinedProgram, EachPart, Joinable, ownNumbers, Joins}
 use Rattle.laws.specs.Refusals.Laws.{all-accept, accept-all}
 use Rattle.laws.specs.Program.Joining.{split-accepts, each, each-both, at-each, OwnChecked, Accepts, Theirs, Passing, passing, passes-all, programs-of, joined, few-nodes, whole-is, whole-checked, join-compiles}
 use Rattle.laws.specs.NetlistFile.Compiled.{compiled-accepted}
@@ -41,7 +41,7 @@ own-order : (G : Given) (ps : List Part) (nss : List (List ℕ)) (cs : List Chec
 unfolding ownChecks load
 own-order G [] nss cs o = (table-gives G, o)
 own-order G (p ∷ ps) nss cs o = (
-  given-gives (givenPart G p),
+  given-gives (beside (G .table) 0 (p .pulse)),
   (check-gives (besidePart (load G) p) (p .program), (file-gives (p .file), own-order G ps nss cs o)),
 )
 
@@ -80,49 +80,39 @@ join-refuses G ps lent =
 
 -- Parts that may be joined -----------------------------------------------------------------------------------------------------------------
 
--- what is given beside a part is its table and its pulse length
-beside-part : (G : Given) (p : Part) → besidePart (load G) p ≡ load (givenPart G p)
-unfolding load
-beside-part G p = refl
-
 -- of parts as they are promised
-abbrev Compiled : Given → Part → Type 0
-Compiled G p = (checkCall (load (givenPart G p)) (p .program) ≡ Accepted) × (p .file ≡ compiledFile (load (givenPart G p)) (p .program))
+abbrev Compiled : Options → Part → Type 0
+Compiled O p = (checkCall (besidePart O p) (p .program) ≡ Accepted) × (p .file ≡ compiledFile (besidePart O p) (p .program))
 
-module _ (G : Given) where
-  abbrev O : Options
-  O = load G
-
-  compiled-part : (p : Part) → OwnChecked O p × Theirs O p → Compiled G p
+module _ (O : Options) where
+  compiled-part : (p : Part) → OwnChecked O p × Theirs O p → Compiled O p
   unfolding checkCall
-  compiled-part p r =
-      rw (← beside-part G p)
-      (accept-all (givenCheck (besidePart O p) ∷ checkOf (besidePart O p) (p .program) ∷ []) (r .0 .0, (r .0 .1, tt)), r .1)
+  compiled-part p r = (accept-all (givenCheck (besidePart O p) ∷ checkOf (besidePart O p) (p .program) ∷ []) (r .0 .0, (r .0 .1, tt)), r .1)
 
-  may-join : (ps : List Part) → Passing O ps → Joinable G ps
+  may-join : (ps : List Part) → Passing O ps → Joinable O ps
   may-join ps P =
       record {
         number = P .many;
-        compiled = each (λ p. OwnChecked O p × Theirs O p) (Compiled G) compiled-part ps (each-both (OwnChecked O) (Theirs O) ps (P .own) (P .files));
+        compiled = each (λ p. OwnChecked O p × Theirs O p) (Compiled O) compiled-part ps (each-both (OwnChecked O) (Theirs O) ps (P .own) (P .files));
         pulses = P .pulses;
         nodes = joined O ps P .few;
       }
 
-  part-checks : (p : Part) → checkCall (load (givenPart G p)) (p .program) ≡ Accepted
+  part-checks : (p : Part) → checkCall (besidePart O p) (p .program) ≡ Accepted
       → (givenCheck (besidePart O p) ≡ Accepted) × (checkOf (besidePart O p) (p .program) ≡ Accepted)
   unfolding checkCall
   part-checks p e =
-      let a = all-accept (givenCheck (besidePart O p) ∷ checkOf (besidePart O p) (p .program) ∷ []) (rw (← beside-part G p) at e) in
+      let a = all-accept (givenCheck (besidePart O p) ∷ checkOf (besidePart O p) (p .program) ∷ []) e in
       (a 0, a 1)
 
-  part-own : (p : Part) → Bytes (p .program) × Compiled G p → OwnChecked O p
+  part-own : (p : Part) → Bytes (p .program) × Compiled O p → OwnChecked O p
   part-own p r =
       let a = part-checks p (r .1 .0) in
-      (a .0, a .1, ap fileCheck (r .1 .1) ∙ compiled-accepted (load (givenPart G p)) (p .program) (r .0) (r .1 .0))
+      (a .0, a .1, ap fileCheck (r .1 .1) ∙ compiled-accepted (besidePart O p) (p .program) (r .0) (r .1 .0))
 
-  joining : (ps : List Part) → EachPart (λ p. Bytes (p .program)) ps → Joinable G ps → Passing O ps
+  joining : (ps : List Part) → EachPart (λ p. Bytes (p .program)) ps → Joinable O ps → Passing O ps
   joining ps y j =
-      let own = each (λ p. Bytes (p .program) × Compiled G p) (OwnChecked O) part-own ps (each-both (λ p. Bytes (p .program)) (Compiled G) ps y (j .compiled)) in
+      let own = each (λ p. Bytes (p .program) × Compiled O p) (OwnChecked O) part-own ps (each-both (λ p. Bytes (p .program)) (Compiled O) ps y (j .compiled)) in
       let w = partAt ps 0 .pulse in
       record {
         loaded = all-accept (givenChecks (besideWhole O ps)) (unfold givenCheck in at-each (OwnChecked O) ps own 0 (omega (arith, j .number .0)) .0) 1;
@@ -130,7 +120,7 @@ module _ (G : Given) where
         many = j .number;
         few = few-nodes O w ps (programs-of O w ps (j .pulses) (each (OwnChecked O) (Accepts O) (λ p o. o .1) ps own)) (j .nodes);
         pulses = j .pulses;
-        files = each (Compiled G) (Theirs O) (λ p c. c .1 ∙ ap (λ (O : Options). compiledFile O (p .program)) (sym (beside-part G p))) ps (j .compiled);
+        files = each (Compiled O) (Theirs O) (λ p c. c .1) ps (j .compiled);
       }
 
 -- a call that is done was accepted
@@ -165,44 +155,44 @@ whole-bytes (p ∷ (q ∷ ps)) y =
 -- What is promised -------------------------------------------------------------------------------------------------------------------------
 
 -- joining is compiling the whole
-join-same : (G : Given) (ps : List Part) (lent : List ℕ) → first (partChecks (load G) ps) ≡ Accepted
-    → joinCall (load G) ps lent ≡ compileCall (load (givenWhole G ps)) (wholeProgram ps) lent
-join-same G ps lent e = join-compiles (load G) ps e lent ∙ ap (λ (O : Options). compileCall O (wholeProgram ps) lent) (beside-part G (partAt ps 0))
+join-same : (O : Options) (ps : List Part) (lent : List ℕ) → first (partChecks O ps) ≡ Accepted
+    → joinCall O ps lent ≡ compileCall (besideWhole O ps) (wholeProgram ps) lent
+join-same O ps lent e = join-compiles O ps e lent
 
-join-published : (G : Given) (ps : List Part) (lent : List ℕ) (n f : ℕ) → EachPart (λ p. Bytes (p .program)) ps
-    → joinCall (load G) ps lent .answer ≡ Done n f → Published (joinedProgram ps) (take n (joinCall (load G) ps lent .lent)) f
-join-published G ps lent n f y made =
-    let e = done-accepted (load G) ps lent n f made in
-    let same = join-same G ps lent e in
-    rw (same, ← whole-is (load G) ps e) (demand2 .compiled (givenWhole G ps) (wholeProgram ps) lent n f (whole-bytes ps y) (rw same at made))
+join-published : (O : Options) (ps : List Part) (lent : List ℕ) (n f : ℕ) → EachPart (λ p. Bytes (p .program)) ps
+    → joinCall O ps lent .answer ≡ Done n f → Published (joinedProgram ps) (take n (joinCall O ps lent .lent)) f
+join-published O ps lent n f y made =
+    let e = done-accepted O ps lent n f made in
+    let same = join-same O ps lent e in
+    rw (same, ← whole-is O ps e) (demand2 .compiled (besideWhole O ps) (wholeProgram ps) lent n f (whole-bytes ps y) (rw same at made))
 
-join-keeps : (F : Format) (G : Given) (ps : List Part) (forFile words forState : List ℕ) (calls : List Call) (n f : ℕ)
-    → joinCall (load G) ps forFile .answer ≡ Done n f →
-    let file = take n (joinCall (load G) ps forFile .lent) in
+join-keeps : (F : Format) (O : Options) (ps : List Part) (forFile words forState : List ℕ) (calls : List Call) (n f : ℕ)
+    → joinCall O ps forFile .answer ≡ Done n f →
+    let file = take n (joinCall O ps forFile .lent) in
     let begun = beginCall F file words forState in
     verdict (begun .answer .outcome) ≡ Accepted → Keeps F (partAt ps 0 .pulse) (meaning (joinedProgram ps)) (wordAt words) file begun calls
-join-keeps F G ps forFile words forState calls n f made =
-    let e = done-accepted (load G) ps forFile n f made in
-    let same = join-same G ps forFile e in
-    rw (same, ← whole-is (load G) ps e) (λ begun. demand3 .lists F (givenWhole G ps) (wholeProgram ps) forFile words forState calls n f (rw same at made) begun)
+join-keeps F O ps forFile words forState calls n f made =
+    let e = done-accepted O ps forFile n f made in
+    let same = join-same O ps forFile e in
+    rw (same, ← whole-is O ps e) (λ begun. demand3 .lists F (besideWhole O ps) (wholeProgram ps) forFile words forState calls n f (rw same at made) begun)
 
-join-runs : (G : Given) (ps : List Part) (forFile words forState : List ℕ) (n f : ℕ) → joinCall (load G) ps forFile .answer ≡ Done n f →
-    let file = take n (joinCall (load G) ps forFile .lent) in
+join-runs : (O : Options) (ps : List Part) (forFile words forState : List ℕ) (n f : ℕ) → joinCall O ps forFile .answer ≡ Done n f →
+    let file = take n (joinCall O ps forFile .lent) in
     let begun = beginCall Full file words forState in
     verdict (begun .answer .outcome) ≡ Accepted
-    → FullRuns file begun (λ k. runProgramCall (load (givenWhole G ps)) (wholeProgram ps) words k forFile forState .answer)
-    (λ k. runNetlistCall file words k forState .answer)
-join-runs G ps forFile words forState n f made =
-    let e = done-accepted (load G) ps forFile n f made in
-    let same = join-same G ps forFile e in
-    rw same (λ begun. demand3 .fullRuns (givenWhole G ps) (wholeProgram ps) forFile words forState n f (rw same at made) begun)
+    → FullRuns file forFile begun (λ k. runProgramCall (besideWhole O ps) (wholeProgram ps) words k forFile forState)
+    (λ k. runNetlistCall file words k forState)
+join-runs O ps forFile words forState n f made =
+    let e = done-accepted O ps forFile n f made in
+    let same = join-same O ps forFile e in
+    rw same (λ begun. demand3 .fullRuns (besideWhole O ps) (wholeProgram ps) forFile words forState n f (rw same at made) begun)
 
 pub joins : Joins
 joins =
     record {
       refuses = join-refuses;
-      accepts = λ G ps y. (λ e. may-join G ps (passing (load G) ps e), λ j. passes-all (load G) ps (joining G ps y j));
-      wholes = λ G ps e. (rw (← beside-part G (partAt ps 0)) (whole-checked (load G) ps e), whole-is (load G) ps e);
+      accepts = λ O ps y. (λ e. may-join O ps (passing O ps e), λ j. passes-all O ps (joining O ps y j));
+      wholes = λ O ps e. (whole-checked O ps e, whole-is O ps e);
       files = join-same;
       published = join-published;
       lists = join-keeps;

@@ -14,13 +14,12 @@ use Rattle.model.specs.declared.Checked.the-variants.{Accepted}
 use Rattle.model.specs.declared.Outcome.the-variants.{Ended, Open}
 use Rattle.model.specs.declared.Answer.{Answer}
 use Rattle.model.specs.Refusals.{first}
-use Rattle.model.specs.Program.{programOf, Stmt, Program}
+use Rattle.model.specs.Program.{programOf, Stmt}
 use Rattle.model.specs.Procedures.{inlined, meaning}
 use Rattle.model.specs.ProgramChecks.{programWith}
 use Rattle.model.specs.Rules.{imperative, Store, Ends, ended, run, atEnd}
 use Rattle.model.specs.Circuit.{high}
-use Rattle.model.specs.NetlistFile.{netOf, cellsOf, finishOf}
-use Rattle.model.specs.TimeTables.{load}
+use Rattle.model.specs.NetlistFile.{netOf, finishOf}
 use Rattle.model.specs.State.{stateSize, nowAt, beginState}
 use Rattle.model.specs.Calls.{tooLong, verdict, checkCall, compiledFile, wordAt, shows, running, beginCall, runProgramChecks, runProgramCall, fullState, fullCount, referenceAnswer, answering, referenceChecks, referenceCall}
 use Rattle.model.specs.Word.{Bytes}
@@ -147,23 +146,23 @@ unfolding verdict
 accepted-ended = refl
 
 pub programs : Programs
-unfolding load programOf
+unfolding programOf
 programs =
     record {
-      tree = λ G program e. sym (program-nodes (G .procedures) program (accepted (load G) program e .readable) (G .pulse));
-      ends = λ G program words n t σ′ v. reference-ends (load G) program words n v t σ′;
-      ended = λ G program words n e. reference-ended (load G) program words n (ap verdict e ∙ accepted-ended) e;
-      stillOpen = λ G program words n e. reference-open (load G) program words n (ap verdict e ∙ accepted-open) e;
-      obeyed = λ G program e.
-          let S = programWith (load G) program in
-          (λ p. Ends (imperative (G .pulse)) (inlined (S .bodies) p), meanings-obey (imperative (G .pulse)) S (program-admitted (load G) program e));
-      calling = λ G program e. main-rules (imperative (G .pulse)) (programWith (load G) program) (program-admitted (load G) program e);
-      neverLeft = λ G program e.
-          let S = programWith (load G) program in
-          never-left (imperative (G .pulse)) (meaning S) (meaning-closed S (program-admitted (load G) program e));
-      agree = λ G program words n forFile lent y v.
-          let file = compiledFile (load G) program in
-          same-answers (load G) program words n forFile lent y
+      tree = λ options program e. sym (program-nodes (options .procedures) program (accepted options program e .readable) (options .pulse));
+      ends = λ options program words n t σ′ v. reference-ends options program words n v t σ′;
+      ended = λ options program words n e. reference-ended options program words n (ap verdict e ∙ accepted-ended) e;
+      stillOpen = λ options program words n e. reference-open options program words n (ap verdict e ∙ accepted-open) e;
+      obeyed = λ options program e.
+          let S = programWith options program in
+          (λ p. Ends (imperative (options .pulse)) (inlined (S .bodies) p), meanings-obey (imperative (options .pulse)) S (program-admitted options program e));
+      calling = λ options program e. main-rules (imperative (options .pulse)) (programWith options program) (program-admitted options program e);
+      neverLeft = λ options program e.
+          let S = programWith options program in
+          never-left (imperative (options .pulse)) (meaning S) (meaning-closed S (program-admitted options program e));
+      agree = λ options program words n forFile lent y v.
+          let file = compiledFile options program in
+          same-answers options program words n forFile lent y
           (unfold runProgramCall in
-          ran Full (first (runProgramChecks (load G) program words n forFile lent)) file (fullState file words n lent) (fullCount file words n lent) lent v);
+          ran Full (first (runProgramChecks options program words n forFile lent)) file (fullState file words n lent) (fullCount file words n lent) lent v);
     }

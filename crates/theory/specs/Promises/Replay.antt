@@ -24,8 +24,8 @@ use Rattle.model.specs.Circuit.{Netlist, Sig, Values, high, level, Obeys}
 use Rattle.model.specs.NetlistFile.{fileCheck, cellsOf, netOf, finishOf, pulseOf}
 use Rattle.model.specs.State.{instantOf, flightOf, Course, stateSize, nowAt, stepState, continued, sound}
 use Rattle.model.specs.Calls.{Returned, verdict, refusedAnswer, shows, running, continueChecks, goingOn, continueCall, tooLong, busy, startChecks, startCall}
-use Rattle.model.specs.CircuitPromises.{Idle, stopsAt, NoStart, Apart}
-use Rattle.model.specs.RunPromises.{Request, continuing, start, Call, respond, replayBy, Seen, seen, seenIn, seenOf, endedIf, Stand, stand, Runs, runAt, dueAt, Next, refuses, pulsed, afterRequest, next, expected, stands, Along, Unchanged}
+use Rattle.model.specs.CircuitPromises.{Idle, stopsAt, NoStart, Apart, endedIf}
+use Rattle.model.specs.RunPromises.{Request, continuing, start, Call, respond, replayBy, Seen, seen, seenIn, seenOf, Stand, stand, Runs, runAt, dueAt, Next, refuses, pulsed, afterRequest, next, expected, stands, Along, Unchanged}
 use Rattle.laws.specs.Refusals.Laws.{by-bool, by-le}
 use Rattle.laws.specs.Program.Widths.{gap-one, gap-wide}
 use Rattle.laws.specs.Rules.Laws.{by-runs, steady}

@@ -4,7 +4,7 @@
 -- Assumes nothing.
 use mathlib.Core.Path.{_≡_, refl, sym, ap, ap₂, subst, _∙_}
 use mathlib.Core.Bool.{Bool, true, false, not, _&&_, _||_, and-false}
-use mathlib.Core.List.{List, [], _∷_, _++_}
+use mathlib.Core.List.{List, [], _∷_}
 use mathlib.Core.Logic.{⊎-elim}
 use Prim.Native.Nat.{ℕ, zero, suc, _+_, _-_, _*_, _/_, _%_, _<_, _≤_}
 use native.Mathlib.Nat.{not-suc-le-zero, le-of-suc-le-suc, eq-or-lt-of-le, le-refl, zero-add}
@@ -13,23 +13,23 @@ use lib.Dec.{eqb, ltb}
 use lib.ListN.{length, getD}
 use borrow.Author.Tests.{lt-ltb, le-ltb, ne-eqb}
 use Rattle.model.specs.declared.Cell.{Cell}
-use Rattle.model.specs.Word.{pick, bit, isZero, index, operate}
+use Rattle.model.specs.Word.{pick, bit, isZero, operate}
 use Rattle.model.specs.Program.{Code, Program, roots, arrayVar}
 use Rattle.model.specs.Procedures.{bodyAt}
-use Rattle.model.specs.Circuit.{cell, cellAt, arrayAt, Sig, Values, Elements, level, element, memory, merged, mergeStep, returnStep, startWord, Shape, cellTable, shape, control, equation, Obeys}
+use Rattle.model.specs.Circuit.{cell, cellAt, arrayAt, Values, Elements, level, element, memory, mergeStep, returnStep, startWord, Shape, cellTable, shape, control, equation, Obeys}
 use Rattle.model.specs.Circuit.{kConstant, kComplement, kOperator, kStart, kGround, kDelay, kOr, kWhenTrue, kWhenFalse, kMerge, kReturn, kMemory, kGated, kArray, kAddress, kRead, kLatch, kUnknown}
-use Rattle.model.specs.Numbering.{Source, wiresOf, memoryWires, circuitOf, arrayCell, orChain, orChainOut, ors, orsOut, orCount, orsFrom, outsFrom, orCountFrom, rootWalk, pastRoot, memoriesOf, arraysOf, callsOf, clocksOf, dataOf, addressesOf, procedures, finishOfRoot, netlist, finish, clockAt, memoryAt, arraysAt, walkAt, dataAt, addressAt, clockWires, dataWires, addressWires}
+use Rattle.model.specs.Numbering.{Source, wiresOf, memoryWires, circuitOf, arrayCell, orChain, orChainOut, ors, orsOut, orCount, orsFrom, outsFrom, pastRoot, memoriesOf, arraysOf, callsOf, clocksOf, dataOf, addressesOf, procedures, finishOfRoot, netlist, clockAt, memoryAt, arraysAt, walkAt, dataAt, addressAt, clockWires, dataWires, addressWires}
 use Rattle.model.specs.CircuitPromises.{NoStart}
-use Rattle.model.specs.Gates.{gate, firstStart, slowCell, ObeysSlowly}
+use Rattle.model.specs.Gates.{firstStart, slowCell, ObeysSlowly}
 use Rattle.laws.specs.Circuit.Ordered.{Looks, kinds, Ordered}
 use Rattle.laws.specs.Circuit.Shapes.{only-kind}
-use Rattle.laws.specs.Refusals.Laws.{by-bool, by-le, not-both}
+use Rattle.laws.specs.Refusals.Laws.{by-le, not-both}
 use Rattle.laws.specs.Program.Fit.{Covered, EveryRoot, Numberable}
 use Rattle.laws.specs.Program.Enclosed.{rootAt}
 use Rattle.laws.specs.Program.Admitted.{Admitted, earlier-all, each-root, at-body, at-main, root-count}
-use Rattle.laws.specs.Numbering.Cells.{cellVal, All, all-of, all-at, join, split}
+use Rattle.laws.specs.Numbering.Cells.{cellVal, All, all-of, all-at, join}
 use Rattle.laws.specs.Numbering.Lengths.{ors-len, root-d-len, root-w-len}
-use Rattle.laws.specs.Numbering.Parts.{delayCells, clockOrs, memoryCells, arrayCells, walkCells, dataOrs, addressOrs, orsFrom-len, outs-len, mems-len, arrays-len, net-length, Laid, lay, unlay}
+use Rattle.laws.specs.Numbering.Parts.{delayCells, clockOrs, memoryCells, arrayCells, walkCells, dataOrs, addressOrs, orsFrom-len, outs-len, mems-len, arrays-len, Laid, lay, unlay}
 use Rattle.laws.specs.Numbering.Arrays.{past-is}
 use Rattle.laws.specs.Numbering.Valid.{Every}
 use Rattle.laws.specs.Numbering.Compiled.{EveryWire, wires-all, every-at, wires-every, memory-kinds, gated-sources}

@@ -11,8 +11,8 @@ use lib.Dec.{eqb, ltb}
 use borrow.Author.Tests.{lt-ltb, le-ltb, eq-eqb, ne-eqb}
 use Rattle.model.specs.Rules.{Store, Run, atEnd, atExit, done, ended, still}
 use Rattle.model.specs.Circuit.{Sig}
-use Rattle.model.specs.CircuitPromises.{stopsAt, NoStart}
-use Rattle.model.specs.RunPromises.{Request, continuing, start, Call, seen, endedIf, Stand, stand, Runs, runAt, dueAt, Next, refuses, afterContinuing, pulsed, afterStart, afterRequest, next, stands, startsOf}
+use Rattle.model.specs.CircuitPromises.{stopsAt, NoStart, endedIf}
+use Rattle.model.specs.RunPromises.{Request, continuing, start, Call, seen, Stand, stand, Runs, runAt, dueAt, Next, refuses, afterContinuing, pulsed, afterStart, afterRequest, next, stands, startsOf}
 use Rattle.laws.specs.Refusals.Laws.{by-le}
 use Rattle.theory.specs.State.Running.{stops-ge}
 
@@ -120,18 +120,21 @@ module _ (w : ℕ) (rules : Runs) (size : ℕ) where
       λ q k. rw (ne-eqb (st′ .begun) v q) (none-behind cs st′ v q k) in
       ⊎-elim (λ m. other (λ e. p (sym (m .begun) ∙ e)) (omega (arith, m .now))) (λ m. other (λ e. omega (arith, m .begun)) (omega (arith, m .now))) (moves st c)
 
-  -- and where the run has no end, no other comes at all
-  pub none-ahead : (cs : List Call) (st : Stand) → ((k t : ℕ) (σ : Store) → rules .within (st .from) k ≡ ended t σ → ⊥) → (v : ℕ) → (st .begun ≡ v → ⊥)
+  -- and where the run has no end before an instant, no other begins there
+  pub none-ahead : (cs : List Call) (st : Stand) → st .begun ≤ st .now → (v : ℕ)
+      → ((k t : ℕ) (σ : Store) → st .begun + k < v → rules .within (st .from) k ≡ ended t σ → ⊥) → (st .begun ≡ v → ⊥)
       → startsOf (stands w rules size st cs) v ≡ false
   unfolding stands startsOf
-  none-ahead [] st h v p = refl
-  none-ahead (c ∷ cs) st h v p =
+  none-ahead [] st l v h p = refl
+  none-ahead (c ∷ cs) st l v h p =
       let st′ = next w rules size st c .after in
       ⊎-elim
       (λ m.
       let q : st′ .begun ≡ v → ⊥ = λ e. p (sym (m .begun) ∙ e) in
-      rw (ne-eqb (st′ .begun) v q) (none-ahead cs st′ (λ k t σ e. h k t σ (ap (λ (τ : Store). rules .within τ k) (sym (m .from)) ∙ e)) v q))
-      (λ m. absurd (h (st .now - st .begun) (m .time) (m .words) (m .ending))) (moves st c)
+      let h′ : (k t : ℕ) (σ : Store) → st′ .begun + k < v → rules .within (st′ .from) k ≡ ended t σ → ⊥ =
+      λ k t σ g e. h k t σ (omega (arith, m .begun)) (ap (λ (τ : Store). rules .within τ k) (sym (m .from)) ∙ e) in
+      rw (ne-eqb (st′ .begun) v q) (none-ahead cs st′ (omega (arith, m .begun, m .now)) v h′ q))
+      (λ m. by-le v (st .now) (none-behind (c ∷ cs) st v p) (λ g. absurd (h (st .now - st .begun) (m .time) (m .words) (omega arith) (m .ending)))) (moves st c)
 
   -- The start instants as they are, where the list stands at st and these calls are to come ----------------------------------------------
 
@@ -185,8 +188,9 @@ module _ (w : ℕ) (rules : Runs) (size : ℕ) where
                 coming v (omega (arith, now)) ∙ rw (ne-eqb (st′ .begun) v q) refl;
           }
 
-  -- a run that has no end has no other after it
-  pub given-alone : (starts : Sig) (st : Stand) (cs : List Call) → Given starts st cs → ((k t : ℕ) (σ : Store) → rules .within (st .from) k ≡ ended t σ → ⊥)
-      → (t : ℕ) → NoStart starts (st .begun) t
-  given-alone starts st cs G h t u l k =
-      by-le u (st .now) (λ z. G .none u l z) (λ z. G .ahead u z ∙ none-ahead cs st h u (λ e. omega arith))
+  -- a run that has no end up to an instant has no other after it by then
+  pub given-alone : (starts : Sig) (st : Stand) (cs : List Call) → Given starts st cs → (t : ℕ)
+      → ((k u : ℕ) (σ : Store) → st .begun + k ≤ t → rules .within (st .from) k ≡ ended u σ → ⊥) → NoStart starts (st .begun) t
+  given-alone starts st cs G t h u l k =
+      by-le u (st .now) (λ z. G .none u l z)
+      (λ z. G .ahead u z ∙ none-ahead cs st (G .since) u (λ i v σ g e. h i v σ (omega arith) e) (λ e. omega arith))

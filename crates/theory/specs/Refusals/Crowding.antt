@@ -19,7 +19,7 @@ use Rattle.model.specs.declared.Format.the-variants.{Full, Compact}
 use Rattle.model.specs.Word.{pick, bit}
 use Rattle.model.specs.Refusals.{numberOf, first}
 use Rattle.model.specs.Circuit.{Netlist, cellAt, noCell, high, control, merges}
-use Rattle.model.specs.NetlistFile.{netOf, cellsOf, finishOf}
+use Rattle.model.specs.NetlistFile.{netOf, finishOf}
 use Rattle.model.specs.State.{remainingAt, mostLeft, flightOf, Course, course, longer, base, nowAt, beforeAt, heldAt, leftAt, lineBit, lineAt, flight, stepState, crowded, crowding, continued, lineSound, cellSound, cellsSound, sound}
 use Rattle.model.specs.Calls.{verdict, running, continueChecks, goingOn, continueCall, busy, startChecks, startCall}
 use Rattle.model.specs.RefusalPromises.{longNumbers, among, Gives, Refuses, fileNumbers, just, crowdNumbers, LeavesBut, later, Goes}

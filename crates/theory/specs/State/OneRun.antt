@@ -24,25 +24,26 @@ use Rattle.theory.specs.State.Running.{along}
 use Rattle.theory.specs.State.Past.{past-state}
 
 module _ (net : Netlist) (o : Ordered (net .cells)) (starts : Sig) (words : ℕ → ℕ) (pulse : starts 0 ≡ true) where
-  W : Values
-  W = solution net starts words
-
-  obeyed : Obeys net starts words W
-  unfolding W
-  obeyed = solution-obeys net starts words o
-
-  going : (F : Format) (lent : List ℕ) → stateSize F net ≤ length lent → (f : ℕ) → f < length (net .cells) → (n t : ℕ) →
+  -- continuing, by any values that obey the equations
+  pub going : (W : Values) → Obeys net starts words W → (F : Format) (lent : List ℕ) → stateSize F net ≤ length lent → (f : ℕ) → f < length (net .cells) → (n t : ℕ) →
       let t′ = stopsAt (level W f) t n in
       NoStart starts t t′ → Apart F net W t′
       → continued F net f n (stateAt F net starts words lent t) ≡ course Accepted (stateAt F net starts words lent t′) (t′ - t)
   unfolding stateAt
-  going F lent room f l n t none apart =
+  going W obeyed F lent room f l n t none apart =
       along F net f starts (stateAt F net starts words lent) (λ u. refl) (level W f) n t
       (λ u h k.
       let now = apart-less F net W u _ (omega arith) apart in
       let soon = apart-less F net W (suc u) _ (omega arith) apart in
       (ap high (states-next F net o starts words W obeyed pulse lent room u now f l), states-free F net o starts words W obeyed pulse lent room u now soon))
       none
+
+  W : Values
+  W = solution net starts words
+
+  obeyed : Obeys net starts words W
+  unfolding W
+  obeyed = solution-obeys net starts words o
 
   pub one-run : OneRun net starts words
   one-run =
@@ -53,7 +54,7 @@ module _ (net : Netlist) (o : Ordered (net .cells)) (starts : Sig) (words : ℕ 
         states = λ F lent room. states F net o starts words W obeyed pulse lent room;
         idle = λ F. number-zero F net words W;
         past = λ F. past-state F net o starts words;
-        continuing = going;
+        continuing = going W obeyed;
         crowds = λ lent room t apart k l e. unfold stateAt in states-crowds net o starts words W obeyed pulse lent room t apart k l e;
         controls = level-bound net starts words W obeyed;
       }

@@ -31,6 +31,12 @@ module _ (finishes : ℕ → Bool) (t n : ℕ) where
   stops-low h = ap (λ (b : Bool). elim b as (λ z. ℕ) [ true ↦ suc t | false ↦ stopsAt finishes (suc t) n ]) h
 
 -- it stops no earlier, and no later than it is asked to
+pub stops-within : (F : ℕ → Bool) (n t : ℕ) → stopsAt F t n ≤ t + n
+unfolding stopsAt
+stops-within F zero t = omega arith
+stops-within F (suc n) t =
+    by-bool (F (suc t)) (λ e. omega (arith, stops-high F t n e)) (λ e. omega (arith, stops-low F t n e, stops-within F n (suc t)))
+
 pub stops-ge : (F : ℕ → Bool) (n t : ℕ) → t ≤ stopsAt F t n
 unfolding stopsAt
 stops-ge F zero t = omega arith

@@ -4,11 +4,9 @@ use mathlib.Core.Bool.{Bool, true, false, not, _||_}
 use mathlib.Core.Path.{_≡_, refl, sym, _∙_, ap, ap₂}
 use Prim.Native.Nat.{ℕ, zero, suc, _-_, _<_, _≤_}
 use native.Mathlib.Omega.{arith}
-use lib.Dec.{eqb}
 use lib.ListN.{length}
-use Rattle.model.specs.Word.{pick, isZero, bit}
-use Rattle.model.specs.Circuit.{Netlist, cellAt, Sig, Values, high, level, remainingStep, remainingBefore, pulses, mergedBefore, merged, Step, merges, stepOf, shape, kStart, element, startWord, equation, Obeys, Shape}
-use Rattle.laws.specs.Refusals.Laws.{by-bool}
+use Rattle.model.specs.Word.{pick, isZero}
+use Rattle.model.specs.Circuit.{Netlist, cellAt, Sig, Values, high, level, remainingStep, remainingBefore, pulses, mergedBefore, merged, Step, merges, stepOf, kStart, element, startWord, equation, Obeys, Shape}
 use Rattle.laws.specs.Circuit.Shapes.{merge-shape, return-shape, of-merge, of-return, by-merge}
 use Rattle.laws.specs.State.Bytes.{high-bit}
 use Rattle.laws.specs.State.Passes.{shapeAt}

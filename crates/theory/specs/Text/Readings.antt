@@ -10,12 +10,11 @@ use Rattle.model.specs.declared.Options.{Options}
 use Rattle.model.specs.declared.Node.{Node}
 use Rattle.model.specs.declared.Checked.the-variants.{Accepted}
 use Rattle.model.specs.declared.Written.the-variants.{Done}
-use Rattle.model.specs.Program.{Code, alone, stmt, roots, timeIn, preorder, nodeBytes, programOf}
+use Rattle.model.specs.Program.{Code, stmt, roots, timeIn, preorder, nodeBytes, programOf}
 use Rattle.model.specs.ProgramChecks.{checkOf}
 use Rattle.laws.specs.Program.Passed.{passed, program-trees, count-bodies}
 use Rattle.model.specs.Text.{wordsOf, tokens, Means, BreaksAt}
 use Rattle.model.specs.Reader.{Reading, good, bad, readerAtFirst}
-use Rattle.model.specs.TimeTables.{load}
 use Rattle.model.specs.TextCalls.{readingOf, brokenAt, bytesRead, textChecks, readTextCall}
 use Rattle.model.specs.Word.{Bytes}
 use Rattle.model.specs.TextPromises.{placeAt, Texts}
@@ -81,19 +80,18 @@ program options text lent n f done =
     (q .0, q .1, e, ap₂ (programOf (options .pulse)) z e ∙ program-back (options .pulse) (q .1))
 
 pub texts : Texts
-unfolding load
 texts =
     record {
       one = λ ts P Q d e. one-reading d e;
       found = found;
       read = read;
       broken = broken;
-      program = λ G. program (load G);
+      program = program;
       bytes = λ text e.
           let q = meant text (all-accept (textChecks text) e 2) in
           subst Bytes (sym (q .2)) (reading-bytes text (q .1));
-      compiled = λ G. compile-as-program (load G);
-      run = λ G. run-as-program (load G);
+      compiled = compile-as-program;
+      run = run-as-program;
       reading = read-text-refuses;
       compiling = compile-text-refuses;
       runs = run-text-refuses;

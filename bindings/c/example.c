@@ -68,6 +68,21 @@ static size_t read_text(const char *text)
     return reply.length;
 }
 
+/* The program twice, one after the other, as two clubs that have compiled it would join it; one part alone is refused. */
+static void join(size_t length)
+{
+    size_t size = HUB_NETLIST(HUB_CELLS_IN(netlist));
+    uint32_t lengths[] = {(uint32_t)length, (uint32_t)size, (uint32_t)length, (uint32_t)size};
+    uint8_t pulses[] = {1, 1};
+    for (size_t i = 0; i < 2; i++) {
+        memcpy(parts + i * (length + size), program, length);
+        memcpy(parts + i * (length + size) + length, netlist, size);
+    }
+    CALL(hub_join, false, NULL, 0, lengths, 4, pulses, 2, parts, 2 * (length + size), again, sizeof again);
+    show("netlist", again, reply.length);
+    CALL(hub_join, false, NULL, 0, lengths, 2, pulses, 1, parts, length + size, again, sizeof again);
+}
+
 static void programs(void)
 {
     const uint8_t *text = (const uint8_t *)TWO_BOARDS;
@@ -87,21 +102,6 @@ static void programs(void)
     CALL(hub_reference, false, NULL, 0, 0, 1, program, length, words, sizeof words, 1000);
     CALL(hub_reference, false, NULL, 0, 0, 1, program, length, words, sizeof words, 95);
     join(length);
-}
-
-/* The program twice, one after the other, as two clubs that have compiled it would join it; one part alone is refused. */
-static void join(size_t length)
-{
-    size_t size = HUB_NETLIST(HUB_CELLS_IN(netlist));
-    uint32_t lengths[] = {(uint32_t)length, (uint32_t)size, (uint32_t)length, (uint32_t)size};
-    uint8_t pulses[] = {1, 1};
-    for (size_t i = 0; i < 2; i++) {
-        memcpy(parts + i * (length + size), program, length);
-        memcpy(parts + i * (length + size) + length, netlist, size);
-    }
-    CALL(hub_join, false, NULL, 0, lengths, 4, pulses, 2, parts, 2 * (length + size), again, sizeof again);
-    show("netlist", again, reply.length);
-    CALL(hub_join, false, NULL, 0, lengths, 2, pulses, 1, parts, length + size, again, sizeof again);
 }
 
 static void netlists(size_t length)

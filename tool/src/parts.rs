@@ -64,7 +64,7 @@ impl Part {
 /// The name of the netlist beside a program, where there is one.
 fn beside(name: &str) -> Option<String> {
     let net = Path::new(name).with_extension("net");
-    let there = name != files::STANDARD && net.is_file();
+    let there = name != files::STANDARD && net != Path::new(name) && net.is_file();
     there.then(|| net.to_string_lossy().into_owned())
 }
 
@@ -102,15 +102,17 @@ pub fn join(parts: &[Part]) -> Result<(Vec<u8>, usize), Stop> {
 /// What is told of a refusal of parts that were all accepted by themselves.
 fn report(parts: &[Part], refusal: Refusal) -> Report {
     let plain = |name: &str| refusals::plain(name, refusal);
-    let Some(part) = parts.get(refusal.place) else {
-        return plain("the parts");
+    let part = match parts.get(refusal.place) {
+        Some(part) if (2..=8).contains(&parts.len()) => part,
+        _ => {
+            return Report {
+                found: Some(counted(parts.len(), "part")),
+                ..plain("the parts")
+            }
+        }
     };
     let (name, net) = (&part.given.name, part.beside.as_deref());
     match refusal.number {
-        29 if !(2..=8).contains(&parts.len()) => Report {
-            found: Some(counted(parts.len(), "part")),
-            ..plain("the parts")
-        },
         29 => Report {
             rule: "the parts up to this one, with a sequence between each two, have more than 200 nodes"
                 .to_string(),

@@ -172,36 +172,42 @@ hubrun-prints =
 
 -- hubtext ---------------------------------------------------------------------------------------------------------------------------------
 
-module _ (text : List ℕ) where
+-- with any buffer
+module _ (text lent : List ℕ) where
   abbrev before : List Checked
   before = givenCheck defaults ∷ textChecks text ++ (checkOf defaults (textProgram text) ∷ [])
 
   abbrev room : Checked
-  room = short (length (replicate {A = ℕ} 800 0)) (length (textProgram text))
+  room = short (length lent) (length (textProgram text))
 
-  all-checks : readTextChecks defaults text (replicate 800 0) ≡ before ++ (room ∷ [])
+  all-checks : readTextChecks defaults text lent ≡ before ++ (room ∷ [])
   all-checks = ap (λ (cs : List Checked). givenCheck defaults ∷ cs) (sym (append-assoc (textChecks text) (checkOf defaults (textProgram text) ∷ []) (room ∷ [])))
 
-  text-refusal : (r : Refusal) → textRefused text ≡ Checked.Refused r → hubtextOutput text ≡ line (refusedWord ∷ decimal (r .number) ∷ decimal (r .place) ∷ [])
-  unfolding hubtextOutput readTextCall writing written
-  text-refusal r e =
-      ap (λ (c : Checked). written (writing c (textProgram text) (length (textProgram text)) 0 (replicate 800 0) .answer) (writing c (textProgram text) (length (textProgram text)) 0 (replicate 800 0) .lent))
-      (ap first all-checks ∙ refused-append before (room ∷ []) r e)
+  abbrev output : Checked → List ℕ
+  output c =
+      let r = writing c (textProgram text) (length (textProgram text)) 0 lent in
+      written (r .answer) (r .lent)
 
-  module _ (e : textRefused text ≡ Accepted) where
-    fits : length (textProgram text) ≤ 800
+  text-refusal : (r : Refusal) → textRefused text ≡ Checked.Refused r
+      → output (first (readTextChecks defaults text lent)) ≡ line (refusedWord ∷ decimal (r .number) ∷ decimal (r .place) ∷ [])
+  unfolding writing written
+  text-refusal r e = ap output (ap first all-checks ∙ refused-append before (room ∷ []) r e)
+
+  -- that has room for every program
+  module _ (roomy : 800 ≤ length lent) (e : textRefused text ≡ Accepted) where
+    fits : length (textProgram text) ≤ length lent
     unfolding checkOf
-    fits = passed (timeIn (defaults .times)) (defaults .pulse) (defaults .procedures) (textProgram text) (all-accept before e 4) .readable .short
+    fits =
+        let p = passed (timeIn (defaults .times)) (defaults .pulse) (defaults .procedures) (textProgram text) (all-accept before e 4) in
+        omega (arith, p .readable .short)
 
-    enough : room ≡ Accepted
-    enough = rw (le-ltb (length (replicate {A = ℕ} 800 0)) (length (textProgram text)) (simp length-replicate fits)) refl
-
-    text-bytes : hubtextOutput text ≡ textProgram text
-    unfolding hubtextOutput readTextCall writing written
+    text-bytes : output (first (readTextChecks defaults text lent)) ≡ textProgram text
+    unfolding writing written
     text-bytes =
-        ap (λ (c : Checked). written (writing c (textProgram text) (length (textProgram text)) 0 (replicate 800 0) .answer) (writing c (textProgram text) (length (textProgram text)) 0 (replicate 800 0) .lent))
-        (ap first all-checks ∙ first-append before (room ∷ []) e ∙ sym (first-one room) ∙ enough)
+        let enough : room ≡ Accepted = rw (le-ltb (length lent) (length (textProgram text)) fits) refl in
+        ap output (ap first all-checks ∙ first-append before (room ∷ []) e ∙ sym (first-one room) ∙ enough)
         ∙ take-append-seam (textProgram text) _
 
 pub hubtext-writes : HubtextWrites
-hubtext-writes = record { bytes = text-bytes; refusal = text-refusal }
+unfolding hubtextOutput readTextCall
+hubtext-writes = record { bytes = λ text. text-bytes text _ (omega arith); refusal = λ text. text-refusal text _ }

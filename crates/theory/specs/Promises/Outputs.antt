@@ -24,7 +24,7 @@ use Rattle.model.specs.Rules.{atEnd, atExit, Run, done, still}
 use Rattle.model.specs.ProgramChecks.{checkOf}
 use Rattle.model.specs.TimeTables.{defaults, givenCheck}
 use Rattle.model.specs.TextCalls.{textProgram, textChecks, readTextChecks, readTextCall}
-use Rattle.model.specs.Hubtext.{written, hubtextOutput}
+use Rattle.model.specs.Hubtext.{written, ownBuffer, hubtextOutput}
 use Rattle.model.specs.Calls.{verdict, refusedAnswer, short, writing, referenceAnswer, checkCall, overBudget, referenceChecks, referenceCall, answering, running, runProgramChecks, runProgramCall}
 use Rattle.model.specs.Hubrun.{decimal, line, refusedWord, linesOf, textOf, hubrunText}
 use Rattle.model.specs.RunPromises.{Seen, seenIn}
@@ -210,4 +210,4 @@ module _ (text lent : List ℕ) where
 
 pub hubtext-writes : HubtextWrites
 unfolding hubtextOutput readTextCall
-hubtext-writes = record { bytes = λ text. text-bytes text _ (omega arith); refusal = λ text. text-refusal text _ }
+hubtext-writes = record { bytes = λ text. text-bytes text ownBuffer (omega arith); refusal = λ text. text-refusal text ownBuffer }

@@ -12,6 +12,9 @@ fn main() {
     let mut out = [0u8; 1024];
     let m = output::output(&source[..n], &mut out);
     if !io::write_all(STDOUT_FILENO, &out[..m]) {
-        io::write_all(STDERR_FILENO, b"hubtext: standard output can't be written\n");
+        io::write_all(
+            STDERR_FILENO,
+            b"hubtext: standard output can't be written\n",
+        );
     }
 }

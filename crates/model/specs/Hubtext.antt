@@ -14,8 +14,12 @@ unfoldable pub written : Written → List ℕ → List ℕ
 written (Done n f) program = take n program
 written (Refused r) program = line (refusedWord ∷ decimal (r .number) ∷ decimal (r .place) ∷ [])
 
--- Its own buffer has room for every program, its operator times are the built-in ones, and it is given no procedures.
+-- its own buffer, which has room for every program
+abbrev pub ownBuffer : List ℕ
+ownBuffer = replicate 800 0
+
+-- Its operator times are the built-in ones, and it is given no procedures.
 unfoldable pub hubtextOutput : List ℕ → List ℕ
 hubtextOutput text =
-    let r = readTextCall defaults text (replicate 800 0) in
+    let r = readTextCall defaults text ownBuffer in
     written (r .answer) (r .lent)

@@ -34,5 +34,6 @@ pub mod GatePromises
 pub mod CellPromises
 pub mod TextPromises
 pub mod PartPromises
+pub mod OutputPromises
 pub mod Netlists
 pub mod Cases

@@ -15,4 +15,6 @@ pub mod Slowly
 pub mod Gates
 pub mod Tables
 pub mod Parts
+pub mod Rooms
+pub mod Outputs
 pub mod Cases

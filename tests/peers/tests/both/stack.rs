@@ -126,24 +126,43 @@ fn programs() {
     }
 }
 
-/// Two parts of 98 nodes each.
+/// Two parts, the netlists of which are compiled before.
+fn run_joined(programs: [Vec<u8>; 2]) {
+    let room = vec![0; 6_656];
+    let files = programs.each_ref().map(|program| {
+        let compiled = (PROVED.compile)(Given::NOTHING, program, &room);
+        let cells = usize::from(compiled.result.expect("it is accepted").cells);
+        compiled.lent[0][..cells.div_ceil(84) * 512].to_vec()
+    });
+    let [first, second] = [0, 1].map(|part| Part {
+        program: &programs[part],
+        file: &files[part],
+        pulse: 1,
+    });
+    let joined = (PROVED.join)(None, &[first, second], &room);
+    assert!(joined.result.is_ok());
+}
+
+/// Of 98 nodes each, and as deep as can be beside one node.
 #[test]
 fn parts() {
-    on_a_small_stack(|| {
-        let program = (0..32).fold(assign(0, variable(1), 1), |program, n| {
+    let many = || {
+        (0..32).fold(assign(0, variable(1), 1), |program, n| {
             sequence(program, assign(n % 16, variable(0), 1))
-        });
-        let room = vec![0; 6_656];
-        let compiled = (PROVED.compile)(Given::NOTHING, &program, &room);
-        let cells = usize::from(compiled.result.expect("it is accepted").cells);
-        let part = Part {
-            program: &program,
-            file: &compiled.lent[0][..cells.div_ceil(84) * 512],
-            pulse: 1,
-        };
-        let joined = (PROVED.join)(None, &[part, part], &room);
-        assert!(joined.result.is_ok());
-    });
+        })
+    };
+    let loops = || nested(197, exit(), |p| loop_of(1, p));
+    let whiles = || nested(98, ok(), |p| while_do(variable(0), 1, p));
+    let sequences = || nested(98, ok(), |p| sequence(p, ok()));
+    for programs in [
+        [many(), many()],
+        [loops(), ok()],
+        [ok(), loops()],
+        [whiles(), ok()],
+        [ok(), sequences()],
+    ] {
+        on_a_small_stack(move || run_joined(programs));
+    }
 }
 
 /// As long and as deep as a text may be.

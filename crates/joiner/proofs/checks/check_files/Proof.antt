@@ -26,7 +26,8 @@ count-requires c κs =
 
 loop-holds : tie.Need-loop-holds Inv-loop μ-loop
 loop-holds c =
-    (standing-first _ _ _, c .before .before .before .before .pre, searched-none _ _)
+    let pre = c .before .before .before .before .pre in
+    (standing-first _ _ _, pre, searched-none _ _)
 
 find-requires : tie.Need-find-requires Inv-loop μ-loop
 find-requires c κs =
@@ -50,24 +51,31 @@ part-is-own-start c =
 
 part-is-own-end : tie.Need-part-is-own-end Inv-loop μ-loop
 part-is-own-end c =
-    middle-within (c .before .before .find .ensures) (c .before .before .before .before .before .before .before .before .before .args .pulses .now)
+    let args = c .before .before .before .before .before .before .before .before .before .args in
+    middle-within (c .before .before .find .ensures) (args .pulses .now)
 
 sub-is-own-2 : tie.Need-sub-is-own-2 Inv-loop μ-loop
 sub-is-own-2 c =
-    c .before .before .before .find .ensures .goes
+    let find = c .before .before .before .find in
+    find .ensures .goes
 
 part-is-own-start-2 : tie.Need-part-is-own-start-2 Inv-loop μ-loop
 part-is-own-start-2 c =
-    c .before .before .before .find .ensures .goes
+    let find = c .before .before .before .find in
+    find .ensures .goes
 
 part-is-own-end-2 : tie.Need-part-is-own-end-2 Inv-loop μ-loop
 part-is-own-end-2 c =
-    c .before .before .before .find .ensures .ends
+    let find = c .before .before .before .find in
+    find .ensures .ends
 
 is-own-requires : tie.Need-is-own-requires Inv-loop μ-loop
 is-own-requires c κs =
     let args = c .before .before .before .before .before .before .before .before .before .before .before .args in
-    rw (c .before .before .beside .ensures, c .before .before .before .pulse-at .ensures) (here-accepted (c .before .before .before .before .find .ensures) (args .pulses .now) (args .options) (c .before .before .before .before .before .before .loop .inv .1))
+    let pulse-at = c .before .before .before .pulse-at in
+    let find = c .before .before .before .before .find in
+    let loop = c .before .before .before .before .before .before .loop in
+    rw (c .before .before .beside .ensures, pulse-at .ensures) (here-accepted (find .ensures) (args .pulses .now) (args .options) (loop .inv .1))
 
 refused-requires : tie.Need-refused-requires Inv-loop μ-loop
 refused-requires c κs =
@@ -76,10 +84,16 @@ refused-requires c κs =
 returns : tie.Need-returns Inv-loop μ-loop
 returns c =
     let args = c .before .before .before .before .before .before .before .before .before .before .before .before .before .before .args in
-    let told = rw (c .before .before .before .before .before .beside .ensures, c .before .before .before .before .before .before .pulse-at .ensures) at (c .before .before .is-own .ensures) in
+    let beside = c .before .before .before .before .before .beside in
+    let pulse-at = c .before .before .before .before .before .before .pulse-at in
+    let loop = c .before .before .before .before .before .before .before .before .before .loop in
+    let count = c .before .before .before .before .before .before .before .before .before .before .count in
+    let loop-test = c .before .before .before .before .before .before .before .before .loop-test in
+    let find = c .before .before .before .before .before .before .before .find in
+    let told = rw (beside .ensures, pulse-at .ensures) at (c .before .before .is-own .ensures) in
     c .refused .ensures
-    ∙ fault-here (c .before .before .before .before .before .before .before .before .before .loop .inv .2) 31 (omega (arith, c .before .before .before .before .before .before .before .before .before .before .count .ensures, c .before .before .before .before .before .before .before .before .loop-test .taken)) (omega arith)
-    (files-here (c .before .before .before .before .before .before .before .find .ensures) (args .pulses .now) (args .options) (c .before .before .before .before .before .before .before .before .before .loop .inv .0) told ∙ ap (λ (b : Bool). faultIf b 31) (c .before .if1 .taken))
+    ∙ fault-here (loop .inv .2) 31 (omega (arith, count .ensures, loop-test .taken)) (omega arith)
+    (files-here (find .ensures) (args .pulses .now) (args .options) (loop .inv .0) told ∙ ap (λ (b : Bool). faultIf b 31) (c .before .if1 .taken))
 
 add-i : tie.Need-add-i Inv-loop μ-loop
 add-i c =
@@ -93,11 +107,16 @@ loop-again : tie.Need-loop-again Inv-loop μ-loop
 loop-again c =
     let args = c .before .before .before .before .before .before .before .before .before .before .before .before .before .args in
     let loop = c .before .before .before .before .before .before .before .before .loop in
-    let told = rw (c .before .before .before .before .beside .ensures, c .before .before .before .before .before .pulse-at .ensures) at (c .before .is-own .ensures) in
-    let more : loop .i < partCount (args .lengths .now) = omega (arith, c .before .before .before .before .before .before .before .before .before .count .ensures, c .before .before .before .before .before .before .before .loop-test .taken) in (
-      standing-next (c .before .before .before .before .before .before .find .ensures) (args .pulses .now) (loop .inv .0) more,
-      rest-own (c .before .before .before .before .before .before .find .ensures) (args .pulses .now) (args .options) (loop .inv .1),
-      fault-next (loop .inv .2) more (files-here (c .before .before .before .before .before .before .find .ensures) (args .pulses .now) (args .options) (loop .inv .0) told ∙ ap (λ (b : Bool). faultIf b 31) (c .if1 .left)),
+    let beside = c .before .before .before .before .beside in
+    let pulse-at = c .before .before .before .before .before .pulse-at in
+    let count = c .before .before .before .before .before .before .before .before .before .count in
+    let loop-test = c .before .before .before .before .before .before .before .loop-test in
+    let find = c .before .before .before .before .before .before .find in
+    let told = rw (beside .ensures, pulse-at .ensures) at (c .before .is-own .ensures) in
+    let more : loop .i < partCount (args .lengths .now) = omega (arith, count .ensures, loop-test .taken) in (
+      standing-next (find .ensures) (args .pulses .now) (loop .inv .0) more,
+      rest-own (find .ensures) (args .pulses .now) (args .options) (loop .inv .1),
+      fault-next (loop .inv .2) more (files-here (find .ensures) (args .pulses .now) (args .options) (loop .inv .0) told ∙ ap (λ (b : Bool). faultIf b 31) (c .if1 .left)),
     )
 
 returns-2 : tie.Need-returns-2 Inv-loop μ-loop

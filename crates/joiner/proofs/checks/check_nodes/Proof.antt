@@ -35,7 +35,8 @@ sub-nodes c =
 
 add-nodes : tie.Need-add-nodes Inv-loop μ-loop
 add-nodes c =
-    omega (arith, c .before .before .before .loop .inv .1)
+    let loop = c .before .before .before .loop in
+    omega (arith, loop .inv .1)
 
 refused-requires : tie.Need-refused-requires Inv-loop μ-loop
 refused-requires c κs =
@@ -44,8 +45,11 @@ refused-requires c κs =
 returns : tie.Need-returns Inv-loop μ-loop
 returns c =
     let loop = c .before .before .before .before .before .loop in
+    let count = c .before .before .before .before .before .before .count in
+    let loop-test = c .before .before .before .before .loop-test in
+    let find = c .before .before .before .find in
     c .refused .ensures
-    ∙ fault-here (loop .inv .3) 29 (omega (arith, c .before .before .before .before .before .before .count .ensures, c .before .before .before .before .loop-test .taken)) (omega arith) (too-many (c .before .before .before .find .ensures) (loop .inv .2) (c .before .if1 .taken))
+    ∙ fault-here (loop .inv .3) 29 (omega (arith, count .ensures, loop-test .taken)) (omega arith) (too-many (find .ensures) (loop .inv .2) (c .before .if1 .taken))
 
 add-before : tie.Need-add-before Inv-loop μ-loop
 add-before c =
@@ -62,11 +66,13 @@ loop-less c =
 loop-again : tie.Need-loop-again Inv-loop μ-loop
 loop-again c =
     let loop = c .before .before .before .before .loop in
+    let count = c .before .before .before .before .before .count in
+    let loop-test = c .before .before .before .loop-test in
     let found = c .before .before .find .ensures in (
       found .ends,
       omega (arith, c .if1 .left),
       nodes-next found (loop .inv .2),
-      fault-next (loop .inv .3) (omega (arith, c .before .before .before .before .before .count .ensures, c .before .before .before .loop-test .taken)) (not-many found (loop .inv .2) (c .if1 .left)),
+      fault-next (loop .inv .3) (omega (arith, count .ensures, loop-test .taken)) (not-many found (loop .inv .2) (c .if1 .left)),
     )
 
 returns-2 : tie.Need-returns-2 Inv-loop μ-loop

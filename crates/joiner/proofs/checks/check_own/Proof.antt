@@ -47,19 +47,23 @@ part-check-part-start c =
 
 part-check-part-end : tie.Need-part-check-part-end Inv-loop μ-loop
 part-check-part-end c =
-    middle-within (c .before .before .find .ensures) (c .before .before .before .before .before .before .before .before .before .args .pulses .now)
+    let args = c .before .before .before .before .before .before .before .before .before .args in
+    middle-within (c .before .before .find .ensures) (args .pulses .now)
 
 sub-check-part-2 : tie.Need-sub-check-part-2 Inv-loop μ-loop
 sub-check-part-2 c =
-    c .before .before .before .find .ensures .goes
+    let find = c .before .before .before .find in
+    find .ensures .goes
 
 part-check-part-start-2 : tie.Need-part-check-part-start-2 Inv-loop μ-loop
 part-check-part-start-2 c =
-    c .before .before .before .find .ensures .goes
+    let find = c .before .before .before .find in
+    find .ensures .goes
 
 part-check-part-end-2 : tie.Need-part-check-part-end-2 Inv-loop μ-loop
 part-check-part-end-2 c =
-    c .before .before .before .find .ensures .ends
+    let find = c .before .before .before .find in
+    find .ensures .ends
 
 check-part-requires : tie.Need-check-part-requires Inv-loop μ-loop
 check-part-requires c κs =
@@ -72,8 +76,13 @@ enum-known-checked c =
 returns : tie.Need-returns Inv-loop μ-loop
 returns c =
     let args = c .before .before .before .before .before .before .before .before .before .before .before .before .before .before .before .args in
-    let told = rw (c .before .before .before .before .before .before .beside .ensures, c .before .before .before .before .before .before .before .pulse-at .ensures) at (c .before .before .before .check-part .ensures) in
-    sym (c .before .before .before .before .before .before .before .before .before .before .loop .inv .1 ∙ own-refused (c .before .before .before .before .before .before .before .before .find .ensures) (args .pulses .now) (args .options) (sym told ∙ c .before .checked .given .1))
+    let beside = c .before .before .before .before .before .before .beside in
+    let pulse-at = c .before .before .before .before .before .before .before .pulse-at in
+    let check-part = c .before .before .before .check-part in
+    let loop = c .before .before .before .before .before .before .before .before .before .before .loop in
+    let find = c .before .before .before .before .before .before .before .before .find in
+    let told = rw (beside .ensures, pulse-at .ensures) at (check-part .ensures) in
+    sym (loop .inv .1 ∙ own-refused (find .ensures) (args .pulses .now) (args .options) (sym told ∙ c .before .checked .given .1))
 
 enum-told : tie.Need-enum-told Inv-loop μ-loop
 enum-told c =
@@ -90,8 +99,12 @@ loop-less c =
 loop-again : tie.Need-loop-again Inv-loop μ-loop
 loop-again c =
     let args = c .before .before .before .before .before .before .before .before .before .before .before .before .before .before .args in
-    let told = rw (c .before .before .before .before .before .beside .ensures, c .before .before .before .before .before .before .pulse-at .ensures) at (c .before .before .check-part .ensures) in
-    (c .before .before .before .before .before .before .before .find .ensures .ends, c .before .before .before .before .before .before .before .before .before .loop .inv .1 ∙ own-next (c .before .before .before .before .before .before .before .find .ensures) (args .pulses .now) (args .options) (sym told ∙ c .enum-told .given .1))
+    let beside = c .before .before .before .before .before .beside in
+    let pulse-at = c .before .before .before .before .before .before .pulse-at in
+    let find = c .before .before .before .before .before .before .before .find in
+    let loop = c .before .before .before .before .before .before .before .before .before .loop in
+    let told = rw (beside .ensures, pulse-at .ensures) at (c .before .before .check-part .ensures) in
+    (find .ensures .ends, loop .inv .1 ∙ own-next (find .ensures) (args .pulses .now) (args .options) (sym told ∙ c .enum-told .given .1))
 
 returns-2 : tie.Need-returns-2 Inv-loop μ-loop
 returns-2 c =

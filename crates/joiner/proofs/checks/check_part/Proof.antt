@@ -25,13 +25,15 @@ returns : tie.Need-returns
 unfolding checkCall
 returns c =
     let args = c .before .before .before .before .before .before .args in
-    two-refused (givenCheck (args .options)) (checkOf (args .options) (args .program .now)) (fileCheck (args .file .now)) (sym (c .before .before .before .check .ensures) ∙ c .before .checked .given .1)
+    let check = c .before .before .before .check in
+    two-refused (givenCheck (args .options)) (checkOf (args .options) (args .program .now)) (fileCheck (args .file .now)) (sym (check .ensures) ∙ c .before .checked .given .1)
 
 returns-2 : tie.Need-returns-2
 unfolding checkCall
 returns-2 c =
     let args = c .before .before .before .before .before .before .args in
-    two-accepted (givenCheck (args .options)) (checkOf (args .options) (args .program .now)) (fileCheck (args .file .now)) (sym (c .before .before .before .check .ensures) ∙ c .before .enum-told .given .1) (c .check-file .ensures)
+    let check = c .before .before .before .check in
+    two-accepted (givenCheck (args .options)) (checkOf (args .options) (args .program .now)) (fileCheck (args .file .now)) (sym (check .ensures) ∙ c .before .enum-told .given .1) (c .check-file .ensures)
 
 pub check-part-spec : {M : Type 1} → statement M
 check-part-spec =

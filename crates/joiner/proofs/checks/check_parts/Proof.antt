@@ -14,7 +14,8 @@ enum-known-own c = search needs
 returns : tie.Need-returns
 returns c =
     let args = c .before .before .before .before .before .before .before .args in
-    own-refuses (args .options) (args .lengths .now) (args .pulses .now) (args .parts .now) (sym (c .before .before .before .check-own .ensures) ∙ c .before .own .given .1)
+    let check-own = c .before .before .before .check-own in
+    own-refuses (args .options) (args .lengths .now) (args .pulses .now) (args .parts .now) (sym (check-own .ensures) ∙ c .before .own .given .1)
 
 enum-told : tie.Need-enum-told
 enum-told c = search needs
@@ -28,7 +29,9 @@ refused-requires c κs = search needs
 returns-2 : tie.Need-returns-2
 returns-2 c =
     let args = c .before .before .before .before .before .before .before .before .before .args in
-    number-refuses (args .options) (args .lengths .now) (args .pulses .now) (args .parts .now) (sym (c .before .before .before .before .before .check-own .ensures) ∙ c .before .before .before .enum-told .given .1) (c .before .before .count .ensures) (c .before .if1 .taken) (c .refused .ensures)
+    let check-own = c .before .before .before .before .before .check-own in
+    let enum-told = c .before .before .before .enum-told in
+    number-refuses (args .options) (args .lengths .now) (args .pulses .now) (args .parts .now) (sym (check-own .ensures) ∙ enum-told .given .1) (c .before .before .count .ensures) (c .before .if1 .taken) (c .refused .ensures)
 
 check-nodes-requires : tie.Need-check-nodes-requires
 check-nodes-requires c κs = search needs
@@ -39,7 +42,12 @@ enum-known-nodes c = search needs
 returns-3 : tie.Need-returns-3
 returns-3 c =
     let args = c .before .before .before .before .before .before .before .before .before .before .before .before .args in
-    nodes-refuse (args .options) (args .lengths .now) (args .pulses .now) (args .parts .now) (sym (c .before .before .before .before .before .before .before .before .check-own .ensures) ∙ c .before .before .before .before .before .before .enum-told .given .1) (c .before .before .before .before .before .count .ensures) (c .before .before .before .before .if1 .left) (sym (c .before .before .before .check-nodes .ensures) ∙ c .before .nodes .given .1)
+    let check-own = c .before .before .before .before .before .before .before .before .check-own in
+    let enum-told = c .before .before .before .before .before .before .enum-told in
+    let count = c .before .before .before .before .before .count in
+    let if1 = c .before .before .before .before .if1 in
+    let check-nodes = c .before .before .before .check-nodes in
+    nodes-refuse (args .options) (args .lengths .now) (args .pulses .now) (args .parts .now) (sym (check-own .ensures) ∙ enum-told .given .1) (count .ensures) (if1 .left) (sym (check-nodes .ensures) ∙ c .before .nodes .given .1)
 
 enum-told-2 : tie.Need-enum-told-2
 enum-told-2 c = search needs
@@ -53,19 +61,35 @@ enum-known-alike c = search needs
 returns-4 : tie.Need-returns-4
 returns-4 c =
     let args = c .before .before .before .before .before .before .before .before .before .before .before .before .before .before .before .args in
-    pulses-refuse (args .options) (args .lengths .now) (args .pulses .now) (args .parts .now) (sym (c .before .before .before .before .before .before .before .before .before .before .before .check-own .ensures) ∙ c .before .before .before .before .before .before .before .before .before .enum-told .given .1) (c .before .before .before .before .before .before .before .before .count .ensures) (c .before .before .before .before .before .before .before .if1 .left) (sym (c .before .before .before .before .before .before .check-nodes .ensures) ∙ c .before .before .before .before .enum-told2 .given .1) (sym (c .before .before .before .check-pulses .ensures) ∙ c .before .alike .given .1)
+    let check-own = c .before .before .before .before .before .before .before .before .before .before .before .check-own in
+    let enum-told = c .before .before .before .before .before .before .before .before .before .enum-told in
+    let count = c .before .before .before .before .before .before .before .before .count in
+    let if1 = c .before .before .before .before .before .before .before .if1 in
+    let check-nodes = c .before .before .before .before .before .before .check-nodes in
+    let enum-told2 = c .before .before .before .before .enum-told2 in
+    let check-pulses = c .before .before .before .check-pulses in
+    pulses-refuse (args .options) (args .lengths .now) (args .pulses .now) (args .parts .now) (sym (check-own .ensures) ∙ enum-told .given .1) (count .ensures) (if1 .left) (sym (check-nodes .ensures) ∙ enum-told2 .given .1) (sym (check-pulses .ensures) ∙ c .before .alike .given .1)
 
 enum-told-3 : tie.Need-enum-told-3
 enum-told-3 c = search needs
 
 check-files-requires : tie.Need-check-files-requires
 check-files-requires c κs =
-    sym (c .before .before .before .before .before .before .before .before .before .before .check-own .ensures) ∙ c .before .before .before .before .before .before .before .before .enum-told .given .1
+    let check-own = c .before .before .before .before .before .before .before .before .before .before .check-own in
+    let enum-told = c .before .before .before .before .before .before .before .before .enum-told in
+    sym (check-own .ensures) ∙ enum-told .given .1
 
 returns-5 : tie.Need-returns-5
 returns-5 c =
     let args = c .before .before .before .before .before .before .before .before .before .before .before .before .before .before .before .args in
-    files-decide (args .options) (args .lengths .now) (args .pulses .now) (args .parts .now) (sym (c .before .before .before .before .before .before .before .before .before .before .before .check-own .ensures) ∙ c .before .before .before .before .before .before .before .before .before .enum-told .given .1) (c .before .before .before .before .before .before .before .before .count .ensures) (c .before .before .before .before .before .before .before .if1 .left) (sym (c .before .before .before .before .before .before .check-nodes .ensures) ∙ c .before .before .before .before .enum-told2 .given .1) (sym (c .before .before .before .check-pulses .ensures) ∙ c .before .enum-told3 .given .1) (c .check-files .ensures)
+    let check-own = c .before .before .before .before .before .before .before .before .before .before .before .check-own in
+    let enum-told = c .before .before .before .before .before .before .before .before .before .enum-told in
+    let count = c .before .before .before .before .before .before .before .before .count in
+    let if1 = c .before .before .before .before .before .before .before .if1 in
+    let check-nodes = c .before .before .before .before .before .before .check-nodes in
+    let enum-told2 = c .before .before .before .before .enum-told2 in
+    let check-pulses = c .before .before .before .check-pulses in
+    files-decide (args .options) (args .lengths .now) (args .pulses .now) (args .parts .now) (sym (check-own .ensures) ∙ enum-told .given .1) (count .ensures) (if1 .left) (sym (check-nodes .ensures) ∙ enum-told2 .given .1) (sym (check-pulses .ensures) ∙ c .before .enum-told3 .given .1) (c .check-files .ensures)
 
 pub check-parts-spec : {M : Type 1} → statement M
 check-parts-spec =

@@ -40,10 +40,13 @@ returns : tie.Need-returns Inv-loop μ-loop
 returns c =
     let args = c .before .before .before .before .before .before .before .before .before .before .args in
     let loop = c .before .before .before .before .loop in
-    let more : loop .i < partCount (args .lengths .now) = omega (arith, c .before .before .before .before .before .before .count .ensures, c .before .before .before .loop-test .taken) in
+    let count = c .before .before .before .before .before .before .count in
+    let loop-test = c .before .before .before .loop-test in
+    let pulse-at = c .before .before .before .before .before .pulse-at in
+    let more : loop .i < partCount (args .lengths .now) = omega (arith, count .ensures, loop-test .taken) in
     c .refused .ensures
     ∙ fault-here (loop .inv) 30 more (omega arith)
-    (pulses-differ (args .lengths .now) (args .pulses .now) (args .parts .now) (loop .i) more (c .before .before .pulse-at2 .ensures) (c .before .before .before .before .before .pulse-at .ensures) (c .before .if1 .taken))
+    (pulses-differ (args .lengths .now) (args .pulses .now) (args .parts .now) (loop .i) more (c .before .before .pulse-at2 .ensures) (pulse-at .ensures) (c .before .if1 .taken))
 
 add-i : tie.Need-add-i Inv-loop μ-loop
 add-i c =
@@ -57,13 +60,16 @@ loop-again : tie.Need-loop-again Inv-loop μ-loop
 loop-again c =
     let args = c .before .before .before .before .before .before .before .before .before .args in
     let loop = c .before .before .before .loop in
-    let more : loop .i < partCount (args .lengths .now) = omega (arith, c .before .before .before .before .before .count .ensures, c .before .before .loop-test .taken) in
+    let count = c .before .before .before .before .before .count in
+    let pulse-at = c .before .before .before .before .pulse-at in
+    let more : loop .i < partCount (args .lengths .now) = omega (arith, count .ensures, c .before .before .loop-test .taken) in
     fault-next (loop .inv) more
-    (pulses-agree (args .lengths .now) (args .pulses .now) (args .parts .now) (loop .i) more (c .before .pulse-at2 .ensures) (c .before .before .before .before .pulse-at .ensures) (c .if1 .left))
+    (pulses-agree (args .lengths .now) (args .pulses .now) (args .parts .now) (loop .i) more (c .before .pulse-at2 .ensures) (pulse-at .ensures) (c .if1 .left))
 
 returns-2 : tie.Need-returns-2 Inv-loop μ-loop
 returns-2 c =
-    faults-end (c .before .loop .inv) (omega (arith, c .before .before .before .count .ensures, c .loop-test .left))
+    let count = c .before .before .before .count in
+    faults-end (c .before .loop .inv) (omega (arith, count .ensures, c .loop-test .left))
 
 pub check-pulses-spec : {M : Type 1} → statement M
 check-pulses-spec =

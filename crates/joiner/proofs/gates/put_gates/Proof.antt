@@ -20,7 +20,9 @@ loop-holds : tie.Need-loop-holds Inv-loop μ-loop
 loop-holds c = (c .before .before .pre .0, omega arith, omega arith, omega arith, refl)
 
 read-node-requires : tie.Need-read-node-requires Inv-loop μ-loop
-read-node-requires c κs = omega (arith, c .before .before .before .before .pre .1 .bytes, c .loop-test .taken)
+read-node-requires c κs =
+    let pre = c .before .before .before .before .pre in
+    omega (arith, pre .1 .bytes, c .loop-test .taken)
 
 mul-gates : tie.Need-mul-gates Inv-loop μ-loop
 mul-gates c = omega arith
@@ -29,8 +31,10 @@ slice-write-gates : tie.Need-slice-write-gates Inv-loop μ-loop
 slice-write-gates c =
     let args = c .before .before .before .before .before .before .before .args in
     let loop = c .before .before .before .before .loop in
-    let R = c .before .before .before .before .before .before .before .pre .1 in
-    let more = c .before .before .before .loop-test .taken in
+    let pre = c .before .before .before .before .before .before .before .pre in
+    let loop-test = c .before .before .before .loop-test in
+    let R = pre .1 in
+    let more = loop-test .taken in
     omega (arith, loop .inv .0, loop .inv .2, R .short, more)
 
 add-next : tie.Need-add-next Inv-loop μ-loop
@@ -46,8 +50,10 @@ loop-again : tie.Need-loop-again Inv-loop μ-loop
 loop-again c =
     let args = c .before .before .before .before .before .before .before .args in
     let loop = c .before .before .before .before .loop in
-    let R = c .before .before .before .before .before .before .before .pre .1 in
-    let more = c .before .before .before .loop-test .taken in
+    let pre = c .before .before .before .before .before .before .before .pre in
+    let loop-test = c .before .before .before .loop-test in
+    let R = pre .1 in
+    let more = loop-test .taken in
     let g = gates-variable (args .program .now) (loop .i) more (c .before .before .read-node .ensures) (c .if1 .taken) in (
       length-set (loop .gates) (loop .next) (c .before .before .read-node .result .n) ∙ loop .inv .0,
       omega (arith, more),
@@ -60,9 +66,12 @@ add-gates : tie.Need-add-gates Inv-loop μ-loop
 add-gates c =
     let args = c .before .before .before .before .before .before .before .before .before .before .args in
     let loop = c .before .before .before .before .before .before .before .loop in
-    let R = c .before .before .before .before .before .before .before .before .before .before .pre .1 in
-    let more = c .before .before .before .before .before .before .loop-test .taken in
-    omega (arith, element-low (args .program .now) (loop .i) more (c .before .before .before .before .before .read-node .ensures) R (c .before .if2 .taken))
+    let pre = c .before .before .before .before .before .before .before .before .before .before .pre in
+    let loop-test = c .before .before .before .before .before .before .loop-test in
+    let read-node = c .before .before .before .before .before .read-node in
+    let R = pre .1 in
+    let more = loop-test .taken in
+    omega (arith, element-low (args .program .now) (loop .i) more (read-node .ensures) R (c .before .if2 .taken))
 
 mul-gates-2 : tie.Need-mul-gates-2 Inv-loop μ-loop
 mul-gates-2 c = omega arith
@@ -71,8 +80,10 @@ slice-write-gates-2 : tie.Need-slice-write-gates-2 Inv-loop μ-loop
 slice-write-gates-2 c =
     let args = c .before .before .before .before .before .before .before .before .before .before .args in
     let loop = c .before .before .before .before .before .before .before .loop in
-    let R = c .before .before .before .before .before .before .before .before .before .before .pre .1 in
-    let more = c .before .before .before .before .before .before .loop-test .taken in
+    let pre = c .before .before .before .before .before .before .before .before .before .before .pre in
+    let loop-test = c .before .before .before .before .before .before .loop-test in
+    let R = pre .1 in
+    let more = loop-test .taken in
     omega (arith, loop .inv .0, loop .inv .2, R .short, more)
 
 add-gates-2 : tie.Need-add-gates-2 Inv-loop μ-loop
@@ -85,9 +96,12 @@ slice-write-gates-3 : tie.Need-slice-write-gates-3 Inv-loop μ-loop
 slice-write-gates-3 c =
     let args = c .before .before .before .before .before .before .before .before .before .before .args in
     let loop = c .before .before .before .before .before .before .before .loop in
-    let R = c .before .before .before .before .before .before .before .before .before .before .pre .1 in
-    let more = c .before .before .before .before .before .before .loop-test .taken in
-    omega (arith, loop .inv .0, loop .inv .2, R .short, more, length-set (loop .gates) (loop .next) (16 + c .before .before .before .before .before .read-node .result .n))
+    let pre = c .before .before .before .before .before .before .before .before .before .before .pre in
+    let loop-test = c .before .before .before .before .before .before .loop-test in
+    let read-node = c .before .before .before .before .before .read-node in
+    let R = pre .1 in
+    let more = loop-test .taken in
+    omega (arith, loop .inv .0, loop .inv .2, R .short, more, length-set (loop .gates) (loop .next) (16 + read-node .result .n))
 
 add-next-2 : tie.Need-add-next-2 Inv-loop μ-loop
 add-next-2 c = omega arith
@@ -102,14 +116,17 @@ loop-again-2 : tie.Need-loop-again-2 Inv-loop μ-loop
 loop-again-2 c =
     let args = c .before .before .before .before .before .before .before .before .before .before .args in
     let loop = c .before .before .before .before .before .before .before .loop in
-    let R = c .before .before .before .before .before .before .before .before .before .before .pre .1 in
-    let more = c .before .before .before .before .before .before .loop-test .taken in
-    let g = gates-element (args .program .now) (loop .i) more (c .before .before .before .before .before .read-node .ensures) (c .before .if2 .taken) in (
-      length-set (set (loop .gates) (loop .next) (16 + c .before .before .before .before .before .read-node .result .n)) (loop .next + 1) 20 ∙ length-set (loop .gates) (loop .next) (16 + c .before .before .before .before .before .read-node .result .n) ∙ loop .inv .0,
+    let pre = c .before .before .before .before .before .before .before .before .before .before .pre in
+    let loop-test = c .before .before .before .before .before .before .loop-test in
+    let read-node = c .before .before .before .before .before .read-node in
+    let R = pre .1 in
+    let more = loop-test .taken in
+    let g = gates-element (args .program .now) (loop .i) more (read-node .ensures) (c .before .if2 .taken) in (
+      length-set (set (loop .gates) (loop .next) (16 + read-node .result .n)) (loop .next + 1) 20 ∙ length-set (loop .gates) (loop .next) (16 + read-node .result .n) ∙ loop .inv .0,
       omega (arith, more),
       omega (arith, loop .inv .2),
       omega (arith, loop .inv .3, ap length g),
-      loop .inv .4 ∙ ap (sets (loop .gates) (loop .next)) g ∙ put-two (loop .gates) (loop .next) (16 + c .before .before .before .before .before .read-node .result .n) 20 (gatesIn (nodesAt (args .program .now) (loop .i + 1))),
+      loop .inv .4 ∙ ap (sets (loop .gates) (loop .next)) g ∙ put-two (loop .gates) (loop .next) (16 + read-node .result .n) 20 (gatesIn (nodesAt (args .program .now) (loop .i + 1))),
     )
 
 add-i-3 : tie.Need-add-i-3 Inv-loop μ-loop
@@ -122,18 +139,24 @@ loop-again-3 : tie.Need-loop-again-3 Inv-loop μ-loop
 loop-again-3 c =
     let args = c .before .before .before .before .before .before .before .before .before .args in
     let loop = c .before .before .before .before .before .before .loop in
-    let R = c .before .before .before .before .before .before .before .before .before .pre .1 in
-    let more = c .before .before .before .before .before .loop-test .taken in
-    let g = gates-none (args .program .now) (loop .i) more (c .before .before .before .before .read-node .ensures) (c .before .before .if1 .left) (c .if2 .left) in
+    let pre = c .before .before .before .before .before .before .before .before .before .pre in
+    let loop-test = c .before .before .before .before .before .loop-test in
+    let read-node = c .before .before .before .before .read-node in
+    let R = pre .1 in
+    let more = loop-test .taken in
+    let g = gates-none (args .program .now) (loop .i) more (read-node .ensures) (c .before .before .if1 .left) (c .if2 .left) in
     (loop .inv .0, omega (arith, more), omega (arith, loop .inv .2), omega (arith, loop .inv .3, ap length g), loop .inv .4 ∙ ap (sets (loop .gates) (loop .next)) g)
 
 same-length : tie.Need-same-length Inv-loop μ-loop
-same-length c = c .before .loop .inv .0 ∙ sym (c .before .before .before .before .pre .0)
+same-length c =
+    let pre = c .before .before .before .before .pre in
+    c .before .loop .inv .0 ∙ sym (pre .0)
 
 returns : tie.Need-returns Inv-loop μ-loop
 returns c =
+    let args = c .before .before .before .before .args in
     let loop = c .before .loop in
-    let g = gates-end (c .before .before .before .before .args .program .now) (loop .i) (c .loop-test .left) in
+    let g = gates-end (args .program .now) (loop .i) (c .loop-test .left) in
     (omega (arith, loop .inv .3, ap length g), sym (loop .inv .4 ∙ ap (sets (loop .gates) (loop .next)) g))
 
 pub put-gates-spec : {M : Type 1} → statement M

@@ -13,7 +13,8 @@ own-of-requires c κs = search needs
 put-part-requires : tie.Need-put-part-requires
 put-part-requires c κs =
     let args = c .before .before .before .before .before .args in
-    part-ready (c .before .before .before .before .before .pre) (c .before .own-of .ensures (pulseOf (args .file .now)) (stmtAt (args .program .now) 0) (c .before .before .before .before .before .pre .compiled))
+    let pre = c .before .before .before .before .before .pre in
+    part-ready (pre) (c .before .own-of .ensures (pulseOf (args .file .now)) (stmtAt (args .program .now) 0) (pre .compiled))
 
 slice-aggregate-put-gates : tie.Need-slice-aggregate-put-gates
 slice-aggregate-put-gates c = search needs
@@ -33,10 +34,14 @@ cast-put-marks-2 c = search needs
 put-marks-requires : tie.Need-put-marks-requires
 put-marks-requires c κs =
     let args = c .before .before .before .before .before .before .before .before .before .before .before .before .before .before .before .before .args in
+    let own-of = c .before .before .before .before .before .before .before .before .before .before .before .before .own-of in
+    let pre = c .before .before .before .before .before .before .before .before .before .before .before .before .before .before .before .before .pre in
+    let put-part = c .before .before .before .before .before .before .before .before .before .before .put-part in
+    let put-gates = c .before .before .before .before .before .before .put-gates in
     let P = stmtAt (args .program .now) 0 in
-    let own = c .before .before .before .before .before .before .before .before .before .before .before .before .own-of .ensures (pulseOf (args .file .now)) P (c .before .before .before .before .before .before .before .before .before .before .before .before .before .before .before .before .pre .compiled) in
-    let done = c .before .before .before .before .before .before .before .before .before .before .put-part .ensures (pulseOf (args .file .now)) P own in
-    (walk-room (c .before .before .before .before .before .before .before .before .before .before .before .before .before .before .before .before .pre) refl done, walk-onward (c .before .before .before .before .before .before .before .before .before .before .before .before .before .before .before .before .pre) refl done, marks-room (c .before .before .before .before .before .before .before .before .before .before .before .before .before .before .before .before .pre) refl done _ refl (c .before .before .before .before .before .before .put-gates .ensures .1))
+    let own = own-of .ensures (pulseOf (args .file .now)) P (pre .compiled) in
+    let done = put-part .ensures (pulseOf (args .file .now)) P own in
+    (walk-room (pre) refl done, walk-onward (pre) refl done, marks-room (pre) refl done _ refl (put-gates .ensures .1))
 
 same-length : tie.Need-same-length
 same-length c = search needs
@@ -44,10 +49,14 @@ same-length c = search needs
 returns : tie.Need-returns
 returns c =
     let args = c .before .before .before .before .before .before .before .before .before .before .before .before .before .before .before .before .before .args in
+    let own-of = c .before .before .before .before .before .before .before .before .before .before .before .before .before .own-of in
+    let pre = c .before .before .before .before .before .before .before .before .before .before .before .before .before .before .before .before .before .pre in
+    let put-part = c .before .before .before .before .before .before .before .before .before .before .before .put-part in
+    let put-gates = c .before .before .before .before .before .before .before .put-gates in
     let P = stmtAt (args .program .now) 0 in
-    let own = c .before .before .before .before .before .before .before .before .before .before .before .before .before .own-of .ensures (pulseOf (args .file .now)) P (c .before .before .before .before .before .before .before .before .before .before .before .before .before .before .before .before .before .pre .compiled) in
-    let done = c .before .before .before .before .before .before .before .before .before .before .before .put-part .ensures (pulseOf (args .file .now)) P own in
-    part-done (c .before .before .before .before .before .before .before .before .before .before .before .before .before .before .before .before .before .pre) refl done _ refl (c .before .before .before .before .before .before .before .put-gates .ensures .1) (c .put-marks .ensures .0) (c .put-marks .ensures .1)
+    let own = own-of .ensures (pulseOf (args .file .now)) P (pre .compiled) in
+    let done = put-part .ensures (pulseOf (args .file .now)) P own in
+    part-done (pre) refl done _ refl (put-gates .ensures .1) (c .put-marks .ensures .0) (c .put-marks .ensures .1)
 
 pub place-part-spec : {M : Type 1} → statement M
 place-part-spec =

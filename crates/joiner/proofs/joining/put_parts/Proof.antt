@@ -26,15 +26,18 @@ count-requires c κs =
 
 add-t13 : tie.Need-add-t13 Inv-loop μ-loop
 add-t13 c =
-    omega (arith, c .before .before .before .before .pre .parts-ready .ready .memory)
+    let pre = c .before .before .before .before .pre in
+    omega (arith, pre .parts-ready .ready .memory)
 
 add-t14 : tie.Need-add-t14 Inv-loop μ-loop
 add-t14 c =
-    omega (arith, c .before .before .before .before .pre .parts-ready .ready .memory)
+    let pre = c .before .before .before .before .pre in
+    omega (arith, pre .parts-ready .ready .memory)
 
 loop-holds : tie.Need-loop-holds Inv-loop μ-loop
 loop-holds c =
-    (omega arith, refl, λ options pulses R. going-first (c .before .before .before .before .args .cells .now) R (c .before .before .before .before .args .marks .now))
+    let args = c .before .before .before .before .args in
+    (omega arith, refl, λ options pulses R. going-first (args .cells .now) R (args .marks .now))
 
 find-requires : tie.Need-find-requires Inv-loop μ-loop
 find-requires c κs =
@@ -50,24 +53,32 @@ part-place-part-start c =
 
 part-place-part-end : tie.Need-part-place-part-end Inv-loop μ-loop
 part-place-part-end c =
-    middle-within (c .before .before .find .ensures) (c .before .before .before .before .before .before .before .before .before .pre .pulses)
+    let pre = c .before .before .before .before .before .before .before .before .before .pre in
+    middle-within (c .before .before .find .ensures) (pre .pulses)
 
 sub-place-part-2 : tie.Need-sub-place-part-2 Inv-loop μ-loop
 sub-place-part-2 c =
-    c .before .before .before .find .ensures .goes
+    let find = c .before .before .before .find in
+    find .ensures .goes
 
 part-place-part-start-2 : tie.Need-part-place-part-start-2 Inv-loop μ-loop
 part-place-part-start-2 c =
-    c .before .before .before .find .ensures .goes
+    let find = c .before .before .before .find in
+    find .ensures .goes
 
 part-place-part-end-2 : tie.Need-part-place-part-end-2 Inv-loop μ-loop
 part-place-part-end-2 c =
-    c .before .before .before .find .ensures .ends
+    let find = c .before .before .before .find in
+    find .ensures .ends
 
 place-part-requires : tie.Need-place-part-requires Inv-loop μ-loop
 place-part-requires c κs =
-    let R = c .before .before .before .before .before .before .before .before .before .before .before .pre .parts-ready in
-    part-placeable (c .before .before .before .before .before .before .before .before .before .before .before .args .cells .now) R (c .before .before .before .before .before .before .loop .i) (c .before .before .before .before .before .before .loop .start) (c .before .before .before .before .before .before .loop .inv .2 (c .before .before .before .before .before .before .before .before .before .before .before .pre .options) (c .before .before .before .before .before .before .before .before .before .before .before .pre .pulses) R) (c .before .before .before .before .find .ensures)
+    let pre = c .before .before .before .before .before .before .before .before .before .before .before .pre in
+    let args = c .before .before .before .before .before .before .before .before .before .before .before .args in
+    let loop = c .before .before .before .before .before .before .loop in
+    let find = c .before .before .before .before .find in
+    let R = pre .parts-ready in
+    part-placeable (args .cells .now) R (loop .i) (loop .start) (loop .inv .2 (pre .options) (pre .pulses) R) (find .ensures)
 
 add-i : tie.Need-add-i Inv-loop μ-loop
 add-i c =
@@ -81,7 +92,8 @@ loop-again : tie.Need-loop-again Inv-loop μ-loop
 loop-again c =
     let args = c .before .before .before .before .before .before .before .before .before .before .before .before .before .before .args in
     let loop = c .before .before .before .before .before .before .before .before .before .loop in
-    let found = c .before .before .before .before .before .before .before .find .ensures in
+    let find = c .before .before .before .before .before .before .before .find in
+    let found = find .ensures in
     let put = c .before .before .place-part in
     (found .ends, put .kept .0 ∙ loop .inv .1, λ options pulses R. going-next (args .cells .now) R (loop .i) (loop .start) (loop .inv .2 options pulses R) found (put .kept .0) (put .ensures))
 

@@ -23,7 +23,8 @@ loop-holds c =
 
 cell-at-requires : tie.Need-cell-at-requires Inv-loop μ-loop
 cell-at-requires c κs =
-    (omega (arith, c .before .before .before .before .pre .0 .few, c .loop-test .taken), cell-fits (c .before .before .before .before .pre .0) (c .before .loop .i) (c .loop-test .taken))
+    let pre = c .before .before .before .before .pre in
+    (omega (arith, pre .0 .few, c .loop-test .taken), cell-fits (pre .0) (c .before .loop .i) (c .loop-test .taken))
 
 gate-at-requires : tie.Need-gate-at-requires Inv-loop μ-loop
 gate-at-requires c κs =
@@ -31,18 +32,25 @@ gate-at-requires c κs =
 
 cast-put-gate : tie.Need-cast-put-gate Inv-loop μ-loop
 cast-put-gate c =
-    omega (arith, c .before .before .before .before .before .before .before .before .before .pre .0 .few, c .before .before .before .before .before .loop-test .taken)
+    let pre = c .before .before .before .before .before .before .before .before .before .pre in
+    let loop-test = c .before .before .before .before .before .loop-test in
+    omega (arith, pre .0 .few, loop-test .taken)
 
 put-gate-requires : tie.Need-put-gate-requires Inv-loop μ-loop
 put-gate-requires c κs =
     let args = c .before .before .before .before .before .before .before .before .before .args in
     let loop = c .before .before .before .before .before .before .loop in
-    let one = a-gate (args .cells .now) (args .gates .now) (args .end) (loop .i) (loop .g) (c .before .before .before .before .before .loop-test .taken) (c .before .before .before .before .cell-at .ensures) (c .before .before .if1 .taken) (c .before .gate-at .ensures) in
-    (omega (arith, c .before .before .before .before .before .before .before .before .before .pre .2, loop .inv .2, ap length one, length-append (gate (c .before .gate-at .result) (c .before .before .before .before .cell-at .result .a) (loop .i)) (marksLeft (args .cells .now) (args .gates .now) (args .end) (loop .i + 1) (loop .g + 1))), omega (arith, c .before .before .before .before .before .before .before .before .before .pre .0 .few, c .before .before .before .before .before .loop-test .taken))
+    let loop-test = c .before .before .before .before .before .loop-test in
+    let cell-at = c .before .before .before .before .cell-at in
+    let pre = c .before .before .before .before .before .before .before .before .before .pre in
+    let one = a-gate (args .cells .now) (args .gates .now) (args .end) (loop .i) (loop .g) (loop-test .taken) (cell-at .ensures) (c .before .before .if1 .taken) (c .before .gate-at .ensures) in
+    (omega (arith, pre .2, loop .inv .2, ap length one, length-append (gate (c .before .gate-at .result) (cell-at .result .a) (loop .i)) (marksLeft (args .cells .now) (args .gates .now) (args .end) (loop .i + 1) (loop .g + 1))), omega (arith, pre .0 .few, loop-test .taken))
 
 add-g : tie.Need-add-g Inv-loop μ-loop
 add-g c =
-    omega (arith, c .before .before .before .before .before .before .before .loop .inv .0, c .before .before .before .before .before .before .loop-test .taken)
+    let loop = c .before .before .before .before .before .before .before .loop in
+    let loop-test = c .before .before .before .before .before .before .loop-test in
+    omega (arith, loop .inv .0, loop-test .taken)
 
 add-i : tie.Need-add-i Inv-loop μ-loop
 add-i c =
@@ -56,12 +64,15 @@ loop-again : tie.Need-loop-again Inv-loop μ-loop
 loop-again c =
     let args = c .before .before .before .before .before .before .before .before .before .before .args in
     let loop = c .before .before .before .before .before .before .before .loop in
+    let loop-test = c .before .before .before .before .before .before .loop-test in
+    let cell-at = c .before .before .before .before .before .cell-at in
+    let if1 = c .before .before .before .if1 in
     let put = c .put-gate in
-    let one = a-gate (args .cells .now) (args .gates .now) (args .end) (loop .i) (loop .g) (c .before .before .before .before .before .before .loop-test .taken) (c .before .before .before .before .before .cell-at .ensures) (c .before .before .before .if1 .taken) (c .before .before .gate-at .ensures) in (
+    let one = a-gate (args .cells .now) (args .gates .now) (args .end) (loop .i) (loop .g) (loop-test .taken) (cell-at .ensures) (if1 .taken) (c .before .before .gate-at .ensures) in (
       omega (arith, loop .inv .0),
-      omega (arith, c .before .before .before .before .before .before .loop-test .taken),
-      omega (arith, loop .inv .2, ap length one, length-append (gate (c .before .before .gate-at .result) (c .before .before .before .before .before .cell-at .result .a) (loop .i)) (marksLeft (args .cells .now) (args .gates .now) (args .end) (loop .i + 1) (loop .g + 1)), put .ensures .0),
-      loop .inv .3 ∙ ap (sets (loop .marks) (loop .next)) one ∙ put-behind (gate (c .before .before .gate-at .result) (c .before .before .before .before .before .cell-at .result .a) (loop .i)) (marksLeft (args .cells .now) (args .gates .now) (args .end) (loop .i + 1) (loop .g + 1)) (loop .marks) (loop .next) (put .ensures .1) (put .ensures .0),
+      omega (arith, loop-test .taken),
+      omega (arith, loop .inv .2, ap length one, length-append (gate (c .before .before .gate-at .result) (cell-at .result .a) (loop .i)) (marksLeft (args .cells .now) (args .gates .now) (args .end) (loop .i + 1) (loop .g + 1)), put .ensures .0),
+      loop .inv .3 ∙ ap (sets (loop .marks) (loop .next)) one ∙ put-behind (gate (c .before .before .gate-at .result) (cell-at .result .a) (loop .i)) (marksLeft (args .cells .now) (args .gates .now) (args .end) (loop .i + 1) (loop .g + 1)) (loop .marks) (loop .next) (put .ensures .1) (put .ensures .0),
     )
 
 add-i-2 : tie.Need-add-i-2 Inv-loop μ-loop
@@ -76,8 +87,9 @@ loop-again-2 : tie.Need-loop-again-2 Inv-loop μ-loop
 loop-again-2 c =
     let args = c .before .before .before .before .before .before .before .args in
     let loop = c .before .before .before .before .loop in
-    let none = no-gate (args .cells .now) (args .gates .now) (args .end) (loop .i) (loop .g) (c .before .before .before .loop-test .taken) (c .before .before .cell-at .ensures) (c .if1 .left) in
-    (omega (arith, loop .inv .0), omega (arith, c .before .before .before .loop-test .taken), omega (arith, loop .inv .2, ap length none), loop .inv .3 ∙ ap (sets (loop .marks) (loop .next)) none)
+    let loop-test = c .before .before .before .loop-test in
+    let none = no-gate (args .cells .now) (args .gates .now) (args .end) (loop .i) (loop .g) (loop-test .taken) (c .before .before .cell-at .ensures) (c .if1 .left) in
+    (omega (arith, loop .inv .0), omega (arith, loop-test .taken), omega (arith, loop .inv .2, ap length none), loop .inv .3 ∙ ap (sets (loop .marks) (loop .next)) none)
 
 returns : tie.Need-returns Inv-loop μ-loop
 returns c =

@@ -40,19 +40,28 @@ cast-put-moved-2 c = search needs
 put-moved-requires-2 : tie.Need-put-moved-requires-2
 put-moved-requires-2 c κs =
     let pre = c .before .before .before .before .before .before .before .before .before .before .before .before .pre in
-    (room-for pre _ (pre .walk), omega (arith, pre .walkRoom .1, c .before .before .before .before .put-moved .kept .0), stand-fits pre, low-for pre _ (pre .walk))
+    let put-moved = c .before .before .before .before .put-moved in
+    (room-for pre _ (pre .walk), omega (arith, pre .walkRoom .1, put-moved .kept .0), stand-fits pre, low-for pre _ (pre .walk))
 
 get16-requires : tie.Need-get16-requires
-get16-requires c κs = header (c .before .before .before .before .before .before .before .before .before .before .before .before .before .before .before .pre)
+get16-requires c κs =
+    let pre = c .before .before .before .before .before .before .before .before .before .before .before .before .before .before .before .pre in
+    header (pre)
 
 new-number-requires : tie.Need-new-number-requires
-new-number-requires c κs = stand-fits (c .before .before .before .before .before .before .before .before .before .before .before .before .before .before .before .before .pre)
+new-number-requires c κs =
+    let pre = c .before .before .before .before .before .before .before .before .before .before .before .before .before .before .before .before .pre in
+    stand-fits (pre)
 
 add-t20 : tie.Need-add-t20
-add-t20 c = omega (arith, c .before .before .before .before .before .before .before .before .before .before .before .before .before .before .before .before .before .before .before .pre .delayRoom .0)
+add-t20 c =
+    let pre = c .before .before .before .before .before .before .before .before .before .before .before .before .before .before .before .before .before .before .before .pre in
+    omega (arith, pre .delayRoom .0)
 
 add-t21 : tie.Need-add-t21
-add-t21 c = omega (arith, c .before .before .before .before .before .before .before .before .before .before .before .before .before .before .before .before .before .before .before .before .before .pre .walkRoom .0)
+add-t21 c =
+    let pre = c .before .before .before .before .before .before .before .before .before .before .before .before .before .before .before .before .before .before .before .before .before .pre in
+    omega (arith, pre .walkRoom .0)
 
 same-length : tie.Need-same-length
 same-length c = search needs
@@ -60,9 +69,13 @@ same-length c = search needs
 returns : tie.Need-returns
 returns c =
     let start = c .before .before .before .before .before .before .before .before .before .before .before .before .before .before .before .before .before .before .before .before .before in
-    put-in (start .pre) (start .args .cells .now) (c .before .before .before .before .before .before .before .before .before .before .before .before .before .put-moved .ensures) (c .before .before .before .before .before .before .before .before .put-moved2 .ensures)
-    (c .before .before .before .before .new-number .ensures (subst (λ (k : ℕ). k ≤ 16384) (sym (c .before .before .before .before .before .get16 .ensures)) (finish-low (start .pre)))
-    ∙ ap (moves (standAt (start .args .own) (start .args .memory) (start .args .at))) (c .before .before .before .before .before .get16 .ensures))
+    let put-moved = c .before .before .before .before .before .before .before .before .before .before .before .before .before .put-moved in
+    let put-moved2 = c .before .before .before .before .before .before .before .before .put-moved2 in
+    let new-number = c .before .before .before .before .new-number in
+    let get16 = c .before .before .before .before .before .get16 in
+    put-in (start .pre) (start .args .cells .now) (put-moved .ensures) (put-moved2 .ensures)
+    (new-number .ensures (subst (λ (k : ℕ). k ≤ 16384) (sym (get16 .ensures)) (finish-low (start .pre)))
+    ∙ ap (moves (standAt (start .args .own) (start .args .memory) (start .args .at))) (get16 .ensures))
 
 pub put-part-spec : {M : Type 1} → statement M
 put-part-spec =

@@ -58,8 +58,9 @@ past-walk-requires c κs =
 add-less : tie.Need-add-less
 add-less c =
     let start = c .before .before .before .before .before in
+    let get16 = c .before .before .before .get16 in
     let file = start .args .file .now in
-    let count = c .before .before .before .get16 .ensures in
+    let count = get16 .ensures in
     omega (arith, count, count-low file (start .pre), run-low file (start .pre) count 35 (3 + c .before .before .run-of .result) (run-low file (start .pre) count 34 3 (omega (arith, count, count-low file (start .pre))) (c .before .before .run-of .ensures)) (c .before .run-of2 .ensures))
 
 less-requires : tie.Need-less-requires
@@ -68,30 +69,37 @@ less-requires c κs = search needs
 cast-t8 : tie.Need-cast-t8
 cast-t8 c =
     let start = c .before .before .before .before .before .before in
+    let get16 = c .before .before .before .before .get16 in
+    let run-of = c .before .before .before .run-of in
     let file = start .args .file .now in
-    let count = c .before .before .before .before .get16 .ensures in
-    omega (arith, count, count-low file (start .pre), run-low file (start .pre) count 35 (3 + c .before .before .before .run-of .result) (run-low file (start .pre) count 34 3 (omega (arith, count, count-low file (start .pre))) (c .before .before .before .run-of .ensures)) (c .before .before .run-of2 .ensures))
+    let count = get16 .ensures in
+    omega (arith, count, count-low file (start .pre), run-low file (start .pre) count 35 (3 + run-of .result) (run-low file (start .pre) count 34 3 (omega (arith, count, count-low file (start .pre))) (run-of .ensures)) (c .before .before .run-of2 .ensures))
 
 cast-t10 : tie.Need-cast-t10
 cast-t10 c =
     let start = c .before .before .before .before .before .before in
+    let get16 = c .before .before .before .before .get16 in
+    let run-of = c .before .before .before .run-of in
     let file = start .args .file .now in
-    let count = c .before .before .before .before .get16 .ensures in
-    omega (arith, count, count-low file (start .pre), run-low file (start .pre) count 34 3 (omega (arith, count, count-low file (start .pre))) (c .before .before .before .run-of .ensures))
+    let count = get16 .ensures in
+    omega (arith, count, count-low file (start .pre), run-low file (start .pre) count 34 3 (omega (arith, count, count-low file (start .pre))) (run-of .ensures))
 
 cast-t11 : tie.Need-cast-t11
 cast-t11 c =
     let start = c .before .before .before .before .before .before in
+    let get16 = c .before .before .before .before .get16 in
     let file = start .args .file .now in
-    let count = c .before .before .before .before .get16 .ensures in
+    let count = get16 .ensures in
     omega (arith, count, count-low file (start .pre), end-low file (start .pre) count (c .before .past-walk .ensures), c .less .ensures)
 
 returns : tie.Need-returns
 returns c =
     let start = c .before .before .before .before .before .before in
+    let get16 = c .before .before .before .before .get16 in
+    let run-of = c .before .before .before .run-of in
     let file = start .args .file .now in
-    let count = c .before .before .before .before .get16 .ensures in
-    λ v P C. own-is C (rw count at (c .before .before .before .run-of .ensures)) (rw count at (c .before .before .run-of2 .ensures)) (rw count at (c .before .past-walk .ensures)) refl (c .less .ensures)
+    let count = get16 .ensures in
+    λ v P C. own-is C (rw count at (run-of .ensures)) (rw count at (c .before .before .run-of2 .ensures)) (rw count at (c .before .past-walk .ensures)) refl (c .less .ensures)
 
 pub own-of-spec : {M : Type 1} → statement M
 own-of-spec =

@@ -27,7 +27,11 @@ cell-at-requires c κs =
     (omega (arith, pre .few, c .before .loop .inv .0), cell-fits pre _ (omega (arith, c .before .loop .inv .0, c .loop-test .taken)))
 
 returns : tie.Need-returns Inv-loop μ-loop
-returns c = sym (c .before .before .before .before .loop .inv .1 ∙ cut-end (c .before .before .before .before .before .before .args .file .now) (c .before .before .before .before .loop .n) (c .before .before .before .loop-test .taken) (c .before .before .cell-at .ensures) (c .if1 .taken))
+returns c =
+    let loop = c .before .before .before .before .loop in
+    let args = c .before .before .before .before .before .before .args in
+    let loop-test = c .before .before .before .loop-test in
+    sym (loop .inv .1 ∙ cut-end (args .file .now) (loop .n) (loop-test .taken) (c .before .before .cell-at .ensures) (c .if1 .taken))
 
 sub-n : tie.Need-sub-n Inv-loop μ-loop
 sub-n c = omega arith
@@ -36,10 +40,16 @@ loop-less : tie.Need-loop-less Inv-loop μ-loop
 loop-less c = omega arith
 
 loop-again : tie.Need-loop-again Inv-loop μ-loop
-loop-again c = (omega (arith, c .before .before .before .before .loop .inv .0), c .before .before .before .before .loop .inv .1 ∙ cut-more (c .before .before .before .before .before .before .args .file .now) (c .before .before .before .before .loop .n) (c .before .before .before .loop-test .taken) (c .before .before .cell-at .ensures) (c .if1 .left))
+loop-again c =
+    let loop = c .before .before .before .before .loop in
+    let args = c .before .before .before .before .before .before .args in
+    let loop-test = c .before .before .before .loop-test in
+    (omega (arith, loop .inv .0), loop .inv .1 ∙ cut-more (args .file .now) (loop .n) (loop-test .taken) (c .before .before .cell-at .ensures) (c .if1 .left))
 
 returns-2 : tie.Need-returns-2 Inv-loop μ-loop
-returns-2 c = sym (c .before .loop .inv .1 ∙ cut-none (c .before .before .before .args .file .now) (c .before .loop .n) (omega (arith, c .loop-test .left)))
+returns-2 c =
+    let args = c .before .before .before .args in
+    sym (c .before .loop .inv .1 ∙ cut-none (args .file .now) (c .before .loop .n) (omega (arith, c .loop-test .left)))
 
 pub past-walk-spec : {M : Type 1} → statement M
 past-walk-spec =

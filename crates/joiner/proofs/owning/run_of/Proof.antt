@@ -30,7 +30,11 @@ cell-at-requires c κs =
     (omega (arith, pre .0 .few, c .loop-test .taken), cell-fits (pre .0) _ (c .loop-test .taken))
 
 returns : tie.Need-returns Inv-loop μ-loop
-returns c = sym (c .before .before .before .before .loop .inv .1 ∙ run-end (c .before .before .before .before .before .before .args .file .now) (c .before .before .before .before .before .before .args .count) (c .before .before .before .before .before .before .args .kind) (c .before .before .before .before .before .before .args .from) (c .before .before .before .before .loop .n) (c .before .before .before .loop-test .taken) (c .before .before .cell-at .ensures) (c .if1 .taken))
+returns c =
+    let loop = c .before .before .before .before .loop in
+    let args = c .before .before .before .before .before .before .args in
+    let loop-test = c .before .before .before .loop-test in
+    sym (loop .inv .1 ∙ run-end (args .file .now) (args .count) (args .kind) (args .from) (loop .n) (loop-test .taken) (c .before .before .cell-at .ensures) (c .if1 .taken))
 
 add-n : tie.Need-add-n Inv-loop μ-loop
 add-n c = omega arith
@@ -39,10 +43,16 @@ loop-less : tie.Need-loop-less Inv-loop μ-loop
 loop-less c = omega arith
 
 loop-again : tie.Need-loop-again Inv-loop μ-loop
-loop-again c = (omega (arith, c .before .before .before .loop-test .taken), c .before .before .before .before .loop .inv .1 ∙ run-more (c .before .before .before .before .before .before .args .file .now) (c .before .before .before .before .before .before .args .count) (c .before .before .before .before .before .before .args .kind) (c .before .before .before .before .before .before .args .from) (c .before .before .before .before .loop .n) (c .before .before .before .loop-test .taken) (c .before .before .cell-at .ensures) (c .if1 .left))
+loop-again c =
+    let loop-test = c .before .before .before .loop-test in
+    let loop = c .before .before .before .before .loop in
+    let args = c .before .before .before .before .before .before .args in
+    (omega (arith, loop-test .taken), loop .inv .1 ∙ run-more (args .file .now) (args .count) (args .kind) (args .from) (loop .n) (loop-test .taken) (c .before .before .cell-at .ensures) (c .if1 .left))
 
 returns-2 : tie.Need-returns-2 Inv-loop μ-loop
-returns-2 c = sym (c .before .loop .inv .1 ∙ run-all (c .before .before .before .args .file .now) (c .before .before .before .args .count) (c .before .before .before .args .kind) (c .before .before .before .args .from) (c .before .loop .n) (c .loop-test .left))
+returns-2 c =
+    let args = c .before .before .before .args in
+    sym (c .before .loop .inv .1 ∙ run-all (args .file .now) (args .count) (args .kind) (args .from) (c .before .loop .n) (c .loop-test .left))
 
 pub run-of-spec : {M : Type 1} → statement M
 run-of-spec =

@@ -2,7 +2,7 @@
 _hub() {
     local word=${COMP_WORDS[COMP_CWORD]} options=''
     if [ "$COMP_CWORD" -eq 1 ]; then
-        mapfile -t COMPREPLY < <(compgen -W 'run compare check test delays bound cells wire draw wave show verilog slow compile read begin go start outline assemble format times help' -- "$word")
+        mapfile -t COMPREPLY < <(compgen -W 'run compare check test delays bound cells wire draw wave show verilog slow compile join read begin go start outline assemble format times help' -- "$word")
         return
     fi
     case ${COMP_WORDS[1]} in
@@ -20,6 +20,7 @@ _hub() {
         verilog) options='--budget -o --start --as --times --procedures --pulse --functional --json' ;;
         slow) options='--at --budget --start --to --wires -o --format --all --wave --as --times --procedures --json' ;;
         compile) options='-o --as --times --procedures --pulse --functional --json' ;;
+        join) options='-o --as --times --procedures --pulse --json' ;;
         read) options='-o --as --times --procedures --pulse --json' ;;
         begin) options='-o --start --all --bare --compact --as --times --procedures --pulse --functional --json' ;;
         go) options='--by -o --all --bare --compact --as --times --procedures --pulse --functional --json' ;;
@@ -33,7 +34,7 @@ _hub() {
     if [ "${COMP_WORDS[COMP_CWORD-1]}" = --as ]; then
         options='text short outline program netlist'
     elif [ "${COMP_WORDS[1]}" = help ] && [ "$COMP_CWORD" -eq 2 ]; then
-        options="$options run compare check test delays bound cells wire draw wave show verilog slow compile read begin go start outline assemble format times help"
+        options="$options run compare check test delays bound cells wire draw wave show verilog slow compile join read begin go start outline assemble format times help"
     elif [ "${word#-}" = "$word" ]; then
         mapfile -t COMPREPLY < <(compgen -f -- "$word")
         return

@@ -6,7 +6,7 @@
 use Rattle.std.specs.Prelude.{Bool, ◌||◌, List, [], ◌∷◌, ◌++◌, ℕ, zero, suc, ◌+◌, eqb}
 use Rattle.model.specs.declared.Cell.{Cell}
 use Rattle.model.specs.Word.{pick}
-use Rattle.model.specs.Program.{Expr, Stmt, ok, tick, assign, assign_elem, seq, par, ite, while, repeat, loop, exit, writes}
+use Rattle.model.specs.Program.{Expr, Stmt, ok, tick, assign, assign_elem, seq, par, ite, while, repeat, loop, exit, writes, call}
 use Rattle.model.specs.Circuit.{cell}
 use Rattle.model.specs.Numbering.{Wires, expr_count, expr_wire, expr_cells, switches, if_delay_count, if_delay_cells, if_pulse, head_cells}
 
@@ -78,6 +78,7 @@ count (while δ e P) = many (writes P) + (2 + (expr_count e + (2 + (count P + (1
 count (repeat δ e P) = many (writes P) + (1 + (count P + (1 + (expr_count e + (3 + (many (writes P) + (many (writes P) + many (writes P))))))))
 count (loop δ P) = 0
 count exit = 0
+count (call _ none) = elim none [ ]
 
 -- An if: expression, its delay (none when d is 0), 36, 37, P, Q, 35; then the masks (8: the condition is 0; 5: all ones where it is; 3: all ones where it
 -- is not), and of each variable that P or Q writes the words of both branches, masked and joined.
@@ -137,6 +138,7 @@ finish_wire (while δ e P) s c = while_true e P c + 1
 finish_wire (repeat δ e P) s c = repeat_true e P c
 finish_wire (loop δ P) s c = 1
 finish_wire exit s c = 1
+finish_wire (call _ none) s c = elim none [ ]
 
 -- the wires on which the words are handed on
 unfoldable pub outs : Stmt → Wires → ℕ → Wires
@@ -151,6 +153,7 @@ outs (while δ e P) ws c = placed (writes P) c ws
 outs (repeat δ e P) ws c = outs P (placed (writes P) c ws) (repeat_body e P c)
 outs (loop δ P) ws c = ws
 outs exit ws c = ws
+outs (call _ none) ws c = elim none [ ]
 
 -- a statement's cells. "An assignment takes d."
 unfoldable pub walk : Stmt → ℕ → Wires → ℕ → List Cell
@@ -208,6 +211,7 @@ walk (repeat δ e P) s ws c =
     (cell 35 0 s (p + 1) ∷ choices (writes P) (λ y. cell 41 0 s (ws y)) (λ y. cell 41 0 (p + 1) (us y)) (m + 1)))))
 walk (loop δ P) s ws c = []
 walk exit s ws c = []
+walk (call _ none) s ws c = elim none [ ]
 
 -- The netlist --------------------------------------------------------------------------------------------------------------------------------
 

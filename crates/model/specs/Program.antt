@@ -299,6 +299,7 @@ writes (while d e P) x = writes P x
 writes (repeat d e P) x = writes P x
 writes (loop d P) x = writes P x
 writes exit x = false
+writes (call _ none) x = elim none [ ]
 
 -- it is read or written in P
 unfoldable pub touches : Stmt → ℕ → Bool
@@ -313,3 +314,4 @@ touches (while d e P) x = reads e x || touches P x
 touches (repeat d e P) x = reads e x || touches P x
 touches (loop d P) x = touches P x
 touches exit x = false
+touches (call _ none) x = elim none [ ]

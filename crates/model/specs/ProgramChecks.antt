@@ -141,6 +141,7 @@ conflicts (while d e P) = false
 conflicts (repeat d e P) = false
 conflicts (loop d P) = false
 conflicts exit = false
+conflicts (call _ none) = elim none [ ]
 
 -- "8. A variable written on one side of a parallel node and read or written on the other (first such node, in node order)."
 -- "Refusal 8 looks through calls."

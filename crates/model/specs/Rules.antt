@@ -4,7 +4,7 @@
 -- Assumes nothing: definitions.
 use Rattle.std.specs.Prelude.{ℕ, zero, suc, ◌+◌, ◌-◌, ◌/◌, max, ◌≡◌, Bool, true, false, ◌⊎◌, leb, ltb, eqb}
 use Rattle.model.specs.Word.{pick, is_zero, operate, element_word}
-use Rattle.model.specs.Program.{Expr, const, var, compl, op, elem, Stmt, ok, tick, assign, assign_elem, seq, par, ite, while, repeat, loop, exit, array_var, writes}
+use Rattle.model.specs.Program.{Expr, const, var, compl, op, elem, Stmt, ok, tick, assign, assign_elem, seq, par, ite, while, repeat, loop, exit, array_var, writes, call}
 
 -- Words --------------------------------------------------------------------------------------------------------------------------------
 
@@ -125,6 +125,7 @@ unfoldable mutual
   Ends κ (loop d P) σ t σ' = (n : ℕ) × LoopEnds (Ends κ P) (λ σ t σ'. Leaves κ P σ t σ') d n σ t σ'
   -- and the exit itself has no end, so that nothing after it runs
   Ends κ exit σ t σ' = ⊥
+  Ends κ (call _ none) σ t σ' = elim none [ ]
 
   -- P, run from σ, comes after t instants, with the words σ', to an exit that ends the loop around P
   pub Leaves : Costs → Stmt → Store → ℕ → Store → Type 0
@@ -143,6 +144,7 @@ unfoldable mutual
   Leaves κ (loop d P) σ t σ' = ⊥
   -- "which takes no time"
   Leaves κ exit σ t σ' = (t ≡ 0) × (σ' ≡ σ)
+  Leaves κ (call _ none) σ t σ' = elim none [ ]
 
 -- The rules within a budget ------------------------------------------------------------------------------------------------------------
 
@@ -228,6 +230,7 @@ run κ k (while d e P) σ = whiles (λ k₁ σ₁. run κ k₁ P σ₁) (extende
 run κ k (repeat d e P) σ = repeats (postponed κ.latch (λ k₁ σ₁. run κ k₁ P σ₁)) d e (suc k) k σ
 run κ k (loop d P) σ = caught (loops (λ k₁ σ₁. run κ k₁ P σ₁) d (suc k) k σ)
 run κ k exit σ = left 0 σ
+run κ k (call _ none) σ = elim none [ ]
 
 -- whether at t, in a run within t instants, one of the w instants from its end on has come
 unfoldable pub shows_at : ℕ → ℕ → Run → Bool

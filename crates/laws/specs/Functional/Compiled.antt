@@ -11,7 +11,7 @@ use borrow.Author.Tests.{eq-eqb, ne_eqb, le-leb, lt-leb, lt-ltb, le-ltb}
 use Rattle.model.specs.declared.Cell.{Cell}
 use Rattle.model.specs.declared.Checked.TheVariants.{Accepted}
 use Rattle.model.specs.Word.{pick, bit}
-use Rattle.model.specs.Program.{Stmt, ok, tick, assign, assign_elem, seq, par, ite, while, repeat, loop, exit, writes}
+use Rattle.model.specs.Program.{Stmt, ok, tick, assign, assign_elem, seq, par, ite, while, repeat, loop, exit, writes, call}
 use Rattle.model.specs.Circuit.{cell, cell_at, control, cell_table, shape, memories, past_memories}
 use Rattle.model.specs.NetlistFile.{cell_limit, of_array, stands, placed, array_placed, cell_fault, net_check, count_wrong, blocks_for, carries, last_fault, last_check}
 use Rattle.model.specs.Numbering.{Wires, expr_count, if_delay_count, if_delay_cells, head_cells}
@@ -150,6 +150,7 @@ walk-plain (repeat δ e P) w s ws c =
     )
 walk-plain (loop δ P) w s ws c = refl
 walk-plain exit w s ws c = refl
+walk-plain (call _ none) w s ws c = elim none [ ]
 
 memory-rows : (x n : ℕ) → memories (rows memory_cell x n) ≡ n
 unfolding memories rows bit

@@ -76,6 +76,7 @@ w-len (repeat δ e P) s ws c =
     simp (length-append, each-len, e-len, w-len P (c + many (writes P)) (placed (writes P) c ws) (repeat_body e P c), choices-len) (omega arith)
 w-len (loop δ P) s ws c = refl
 w-len exit s ws c = refl
+w-len (call _ none) s ws c = elim none [ ]
 
 pub arrays-len : (k n : ℕ) → length (idle_arrays k n) ≡ 2 * n
 unfolding idle_arrays

@@ -8,7 +8,7 @@ use Prim.Native.Nat.{ℕ, zero, suc, ◌+◌, ◌<◌, ◌≤◌}
 use native.Mathlib.Omega.{arith}
 use Rattle.model.specs.declared.Cell.{Cell}
 use Rattle.model.specs.Word.{pick}
-use Rattle.model.specs.Program.{Stmt, ok, tick, assign, assign_elem, seq, par, ite, while, repeat, loop, exit, writes}
+use Rattle.model.specs.Program.{Stmt, ok, tick, assign, assign_elem, seq, par, ite, while, repeat, loop, exit, writes, call}
 use Rattle.model.specs.Circuit.{cell, control, cell_table, shape}
 use Rattle.model.specs.NetlistFile.{of_array, stands}
 use Rattle.model.specs.Numbering.{Wires, expr_count, expr_wire, expr_cells, if_delay_count, if_delay_cells}
@@ -241,3 +241,4 @@ module _ (K : ℕ → ℕ) (n : ℕ) where
     p-ok (assign_elem δ k u e) w z y s ws c b i v l h = absurd y
     p-ok (loop δ P) w z y s ws c b i v l h = absurd y
     p-ok exit w z y s ws c b i v l h = absurd y
+    p-ok (call _ none) w z y s ws c b i v l h = elim none [ ]

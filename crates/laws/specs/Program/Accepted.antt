@@ -12,7 +12,7 @@ use Rattle.model.specs.declared.Node.{Node}
 use Rattle.model.specs.declared.Checked.TheVariants.{Accepted}
 use Rattle.model.specs.declared.Options.{Options}
 use Rattle.model.specs.Word.{pick}
-use Rattle.model.specs.Program.{Expr, Code, Stmt, ok, tick, assign, assign_elem, seq, par, ite, while, repeat, loop, exit, Tree, expr, stmt, none, as_expr, as_stmt, expr_of, stmt_of, tree_of, trees_at, stmt_at, node_at, row_of, Program, program_of, roots, time_in, least, array_var, writes, touches}
+use Rattle.model.specs.Program.{Expr, Code, Stmt, ok, tick, assign, assign_elem, seq, par, ite, while, repeat, loop, exit, Tree, expr, stmt, none, as_expr, as_stmt, expr_of, stmt_of, tree_of, trees_at, stmt_at, node_at, row_of, Program, program_of, roots, time_in, least, array_var, writes, touches, call}
 use Rattle.model.specs.Procedures.{body_at, inline, inlined, reaches, reached}
 use Rattle.model.specs.ProgramChecks.{conflict, conflicts, shared, shares, node_fault, program_with}
 use Rattle.model.specs.Calls.{check_call}
@@ -81,6 +81,7 @@ written_low (while d e' P) w x e = written_low P w.2 x e
 written_low (repeat d e' P) w x e = written_low P w.2 x e
 written_low (loop d P) w x e = written_low P w.1 x e
 written_low exit w x e = let z : ◌≡◌ {A = ℕ} 0 1 = cc in absurd (omega arith)
+written_low (call _ none) w x e = elim none [ ]
 
 no-clash : (n : ℕ) (P Q : Stmt) → conflict n P Q ≡ false → (x : ℕ) → x < n
     → ((writes P x && touches Q x) ≡ false) × ((writes Q x && touches P x) ≡ false)

@@ -4,7 +4,7 @@ use Rattle.std.specs.Prelude.{◌≡◌, refl, Bool, true, false}
 use Rattle.std.proofs.Common.{sym, ◌∙◌, ap, ap₂, subst, arith, le-leb}
 use Rattle.std.proofs.lemmas.Bool.{lt-leb}
 use Rattle.model.specs.Word.{is_zero, element_word}
-use Rattle.model.specs.Program.{Expr, Stmt, ok, tick, assign, assign_elem, seq, par, ite, while, repeat, loop, exit}
+use Rattle.model.specs.Program.{Expr, Stmt, ok, tick, assign, assign_elem, seq, par, ite, while, repeat, loop, exit, call}
 use Rattle.model.specs.Rules.{Costs, extended, postponed, Store, Way, atEnd, at_exit, Run, done, ended, left, still, after, wait, chain, both, caught, kept, whiles, repeats, loops, run, eval, put}
 use Rattle.laws.specs.Refusals.Laws.{by_bool, by_le}
 use Rattle.laws.specs.Program.Fit.{Timed}
@@ -452,3 +452,4 @@ steady κ (loop d P) h σ =
     steady-caught (λ k. loops (λ k σ. run κ k P σ) d (suc k) k σ)
     (steady-turns (loops (λ k σ. run κ k P σ) d) (steady-loops (λ k σ. run κ k P σ) d h.0 (steady κ P h.1)) σ)
 steady κ exit h σ = steady-end at_exit σ
+steady κ (call _ none) h σ = elim none [ ]

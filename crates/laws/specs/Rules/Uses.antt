@@ -5,7 +5,7 @@ use Rattle.std.proofs.Math.Path.{refl}
 use Rattle.std.proofs.Common.{sym, ◌∙◌, ap, ap₂, ⊎_elim, eq-eqb}
 use Rattle.std.proofs.Math.Bool.{or-true}
 use Rattle.model.specs.Word.{pick, operate, is_zero, element_word}
-use Rattle.model.specs.Program.{Expr, const, var, compl, op, elem, Stmt, ok, tick, assign, assign_elem, seq, par, ite, while, repeat, loop, exit, array_var, reads, writes, touches}
+use Rattle.model.specs.Program.{Expr, const, var, compl, op, elem, Stmt, ok, tick, assign, assign_elem, seq, par, ite, while, repeat, loop, exit, array_var, reads, writes, touches, call}
 use Rattle.model.specs.Rules.{Costs, extended, Postponed, postponed, Store, Course, WhileLeaves, RepeatLeaves, Ends, Leaves, Way, atEnd, at_exit, Run, done, ended, left, chain, over, kept, whiles, repeats, loops, run, owner, eval, put}
 use Rattle.laws.specs.Program.Fit.{FormedExpr, Formed, Apart, exits}
 use Rattle.laws.specs.Refusals.Laws.{by_bool, or-false, not-both}
@@ -133,6 +133,7 @@ unwritten κ (loop d P) f x u = λ k w t σ σ' p.
     let v = caught-done (loops (λ k σ. run κ k P σ) d (suc k) k σ) p in
     loops-comes (Same x) (same-join x) (λ σ. refl) (λ k σ. run κ k P σ) d (unwritten κ P f.1 x u) (suc k) k v.0 t σ σ' v.1
 unwritten κ exit f x u = λ k w t σ σ' p. at-word x p
+unwritten κ (call _ none) f x u = elim none [ ]
 
 -- What has no exit ends or goes on ------------------------------------------------------------------------------------------------------
 
@@ -163,6 +164,7 @@ only-ends κ (repeat d e P) u = λ k.
     (postponed-comes Only κ.latch (λ k σ. run κ k P σ) (only-ends κ P u)) e (suc k) k
 only-ends κ (loop d P) u = λ k w t σ σ' p. (caught-done (loops (λ k σ. run κ k P σ) d (suc k) k σ) p).2
 only-ends κ exit u = not-both refl u
+only-ends κ (call _ none) u = elim none [ ]
 
 pub never-leaves : {A : Type 0} (κ : Costs) (P : Stmt) → exits P ≡ false → (k t : ℕ) (σ σ' : Store) → run κ k P σ ≡ left t σ' → A
 never-leaves κ P u k t σ σ' p = not-way (sym (only-ends κ P u k at_exit t σ σ' p))
@@ -201,6 +203,7 @@ never-left κ (repeat d e P) u σ t σ' l =
     repeat-never (Postponed κ.latch (Ends κ P)) (Postponed κ.latch (Leaves κ P)) d e (postponed-never κ.latch (Leaves κ P) (never-left κ P u)) l.0 σ t σ' l.1
 never-left κ (loop d P) u σ t σ' l = l
 never-left κ exit u σ t σ' l = not-both refl u
+never-left κ (call _ none) u σ t σ' l = elim none [ ]
 
 -- What is written is touched --------------------------------------------------------------------------------------------------------------
 
@@ -224,6 +227,7 @@ writes-touches (while d e P) x w = ap (λ (c : Bool). reads e x || c) (writes-to
 writes-touches (repeat d e P) x w = ap (λ (c : Bool). reads e x || c) (writes-touches P x w) ∙ or-true (reads e x)
 writes-touches (loop d P) x w = writes-touches P x w
 writes-touches exit x w = w
+writes-touches (call _ none) x w = elim none [ ]
 
 -- of two statements that are apart, what one touches the other does not write
 pub apart-unwritten : (P Q : Stmt) → Apart P Q → (x : ℕ) → touches Q x ≡ true → writes P x ≡ false

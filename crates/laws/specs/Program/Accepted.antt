@@ -81,7 +81,7 @@ written_low (while d e' P) w x e = written_low P w.2 x e
 written_low (repeat d e' P) w x e = written_low P w.2 x e
 written_low (loop d P) w x e = written_low P w.1 x e
 written_low exit w x e = let z : ◌≡◌ {A = ℕ} 0 1 = cc in absurd (omega arith)
-written_low (call _ none) w x e = elim none [ ]
+written_low (call _ procedure) w x e = elim procedure [ ]
 
 no-clash : (n : ℕ) (P Q : Stmt) → conflict n P Q ≡ false → (x : ℕ) → x < n
     → ((writes P x && touches Q x) ≡ false) × ((writes Q x && touches P x) ≡ false)

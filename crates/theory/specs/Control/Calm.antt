@@ -1,6 +1,6 @@
 -- What is known of every cell of a circuit: that nothing is in flight, and that what has been so far is in order; and what holds of a circuit at every
 -- instant. Assumes nothing.
-use Rattle.std.specs.Prelude.{ℕ, ◌+◌, ◌≤◌, ◌≡◌, Bool, true, false, ◌||◌, eqb}
+use Rattle.std.specs.Prelude.{ℕ, ◌≤◌, ◌≡◌, Bool, true, false, ◌||◌, eqb}
 use Rattle.std.proofs.Math.Path.{refl, ap}
 use Rattle.std.proofs.Common.{sym, ◌∙◌, ap₂, arith}
 use Rattle.std.specs.Int.Bits.{bit_or}
@@ -10,8 +10,7 @@ use Rattle.model.specs.Procedures.{inline, reaches}
 use Rattle.model.specs.Circuit.{Sig, delayed}
 use Rattle.laws.specs.Refusals.Laws.{or-false, not-both}
 use Rattle.laws.specs.Program.Fit.{exits}
-use Rattle.model.specs.Program.{gap}
-use Rattle.theory.specs.Control.Signal.{Quiet, Clear}
+use Rattle.theory.specs.Control.Signal.{Clear}
 use Rattle.theory.specs.Control.Merge.{Empty, empty-zero}
 use Rattle.theory.specs.Control.Returns.{NoCall, no-call-zero}
 use Rattle.theory.specs.Control.History.{Stable, Spaced}

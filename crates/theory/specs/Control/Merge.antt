@@ -4,7 +4,6 @@ use Rattle.std.proofs.Common.{sym, ◌∙◌, ap, ap₂, subst, arith}
 use Rattle.std.proofs.Math.Bool.{or_comm as ||-comm}
 use Rattle.model.specs.declared.Merge.{Merge}
 use Rattle.model.specs.declared.Merged.{Merged}
-use Rattle.model.specs.Word.{pick}
 use Rattle.model.specs.Circuit.{Sig, short_merge, long_merge, merge_step, merged_before, merged as joined}
 use Rattle.laws.specs.Refusals.Laws.{not-both}
 use Rattle.theory.specs.Control.Signal.{Quiet}

@@ -1,16 +1,16 @@
 -- The timing theorem for a whole program: pulses of its length, each from an instant on at which nothing is in flight, all variables and arrays, and all
 -- bodies. From each pulse on a run stands, until the next one comes.
 -- Assumes nothing.
-use Rattle.std.specs.Prelude.{ℕ, suc, ◌+◌, ◌-◌, ◌≤◌, ◌<◌, ◌≡◌, Bool, true, length}
+use Rattle.std.specs.Prelude.{ℕ, suc, ◌+◌, ◌-◌, ◌≤◌, ◌<◌, ◌≡◌, Bool, length}
 use Rattle.std.proofs.Math.Path.{refl, ap}
-use Rattle.std.proofs.Common.{sym, ◌∙◌, subst}
+use Rattle.std.proofs.Common.{◌∙◌}
 use Rattle.std.proofs.Math.Bool.{false}
 use native.Mathlib.Omega.{arith}
 use Rattle.model.specs.Program.{Program, gap}
-use Rattle.model.specs.Procedures.{body_at, inline, inlined, meaning, reached}
+use Rattle.model.specs.Procedures.{body_at, inlined, meaning, reached}
 use Rattle.model.specs.Circuit.{Sig}
 use Rattle.model.specs.Rules.{imperative, Store, owner, ended, still, run, shows_at, due, atEnd}
-use Rattle.laws.specs.Program.Fit.{Separate, Inside, exits}
+use Rattle.laws.specs.Program.Fit.{Separate, Inside}
 use Rattle.laws.specs.Program.Admitted.{Admitted, flat-is, reach-is, below, plain, plain_flat, plain-main, lone-body, lone-main}
 use Rattle.laws.specs.Program.Widths.{gap-least}
 use Rattle.theory.specs.Control.Widths.{timely-of}
@@ -20,7 +20,7 @@ use Rattle.theory.specs.Control.World.{World, means, Paced, goes}
 use Rattle.theory.specs.Control.Calm.{Calm, Resting, Sofar, Lined, calm-zero, calm-sofar, sofar-less, sofar-lines, calm-rests, rests-calm}
 use Rattle.theory.specs.Control.Rest.{hush}
 use Rattle.theory.specs.Control.Bodies.{Owned, Idle, BodyRests, SilentAt, bodies-rest, Follows, Settled, pause-low, BodySofar}
-use Rattle.theory.specs.Control.Runs.{Ready, Done}
+use Rattle.theory.specs.Control.Runs.{Ready}
 use Rattle.theory.specs.Control.Timing.{done_at, finish-at, words-after, rests-after, alive-at, sofar-at}
 
 -- The signals of a program: the words, all that is given, each body's finish and what it gives

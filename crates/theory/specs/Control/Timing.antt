@@ -1,7 +1,7 @@
 -- The timing theorem: from a start pulse of w instants at any instant at which nothing is in flight, a circuit built by the scheme does exactly what the
 -- program's own rules say, up to any horizon before which no other pulse comes.
 -- Assumes nothing.
-use Rattle.std.specs.Prelude.{ℕ, zero, suc, ◌+◌, ◌≤◌, ◌<◌, ◌≡◌, refl, Bool, true, false, ◌||◌}
+use Rattle.std.specs.Prelude.{ℕ, zero, suc, ◌+◌, ◌≤◌, ◌<◌, ◌≡◌, refl, Bool, true, ◌||◌}
 use Rattle.std.proofs.Math.Path.{sym}
 use Rattle.std.proofs.Common.{◌∙◌, ap, arith, eq-eqb, lt-ltb, le-ltb}
 use Rattle.std.proofs.Math.Bool.{or-true}

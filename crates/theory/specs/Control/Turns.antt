@@ -116,8 +116,8 @@ module _ {W : World} {P : Code} {U : Owned} {d : ℕ} {e : Expr} {more : Bool �
       lap-turned : Turned W d e f X (a + t₁) j
       lap-turned =
           record {
-            low = λ t l k k'. lap-quiet (suc t) (omega arith) (omega arith) t (omega arith) (omega arith);
-            used = λ b l k. used-before turned b k (not-out b (omega arith));
+            low = λ t l k k'. lap-quiet (suc t) (omega (arith, B.long)) (omega arith) t (omega arith) (omega arith);
+            used = λ b l k. used-before turned b k (not-out b (omega (arith, B.long)));
           }
 
   -- Where a pulse enters the delay ----------------------------------------------------------------------------------------------------
@@ -152,7 +152,7 @@ module _ {W : World} {P : Code} {U : Owned} {d : ℕ} {e : Expr} {more : Bool �
       firm k l l₁ l₂ q =
           (surge W P B.timed s₁ f₁ g B.built (a + d) k (waits-rest B o' T o).calm l l₂
           (gated-firm (delayed d X) s₁ (λ t. more (is_zero (eval e (W.m t)))) (a + d) k
-          (λ t l r. I.begin t (T.after t (omega arith) (omega arith)))
+          (λ t l r. I.begin t (T.after t (omega (arith, B.long)) (omega arith)))
           (λ t l r z. delay-out B o' T o (suc t) (omega arith) (omega arith) (omega arith))
           (λ t l r. ap more (test-same W e I.formed U.vars (a + d) k I.reading q t l r)))
           (λ y r. q y (B.owns.mine (owner y) r))).clocks
@@ -176,7 +176,7 @@ module _ {W : World} {P : Code} {U : Owned} {d : ℕ} {e : Expr} {more : Bool �
           (λ y₁. B.off t (T.after t (omega arith) k) (delay-gone B o' T o t y₁ (omega arith) k))
           (λ y₁. I.begin t (T.after t (omega arith) k) ∙ ap₂ ◌&&◌ (delay-out B o' T o t y₀ y₁ k) (test t y₀ y₁ k ∙ z)))
           (λ y₀. delay-off B o' T (a + d) (omega arith) (omega arith) t l y₀) in
-          let r = delay-rests B o' T j (omega arith) (omega arith) none in
+          let r = delay-rests B o' T j (omega (arith, B.long)) (omega arith) none in
           let fed = delay-fed B o' T j (omega arith) r.fin in
           let line = delay-line B o' T j fed in
           let used = used-at j (omega arith) (λ t l k. fed t l (omega arith)) in
@@ -189,8 +189,8 @@ module _ {W : World} {P : Code} {U : Owned} {d : ℕ} {e : Expr} {more : Bool �
               low = λ t l k. finish_off t (delay-gone B o' T o t (omega arith) (omega arith) k);
             };
             out = shows-off (omega arith) (omega arith) (delay-in B o' T j (omega arith) r.out);
-            low = λ x t l k. r.clocks x t (omega arith) k;
-            called = λ x t l k. r.called x t (omega arith) k;
+            low = λ x t l k. r.clocks x t (omega (arith, B.long)) k;
+            called = λ x t l k. r.called x t (omega (arith, B.long)) k;
             words = λ x i. ap (λ (t : ℕ). W.m t x) (sym q) ∙ (waited waits).words x i;
             sofar = ((tt, line, used), calm-sofar W P s₁ f₁ g B.built j r.calm);
             calm = λ k. ((λ t l k'. fed t (omega arith) l, line, used), r.calm);
@@ -202,7 +202,7 @@ module _ {W : World} {P : Code} {U : Owned} {d : ℕ} {e : Expr} {more : Bool �
         starts : Starts W U d σ K₁ s X s₁ f₁ g (a + d) c j
         starts =
             delay-again B o' T o
-            (λ t l k k'. I.begin t (T.after t (omega arith) k') ∙ ap₂ ◌&&◌ (delay-out B o' T o t l k k') (test t l k k' ∙ z))
+            (λ t l k k'. I.begin t (T.after t (omega (arith, B.long)) k') ∙ ap₂ ◌&&◌ (delay-out B o' T o t l k k') (test t l k k' ∙ z))
 
         turns : Turned W d e f X (a + d) j
         turns =
@@ -251,7 +251,7 @@ module _ {W : World} {P : Code} {U : Owned} {d : ℕ} {e : Expr} {more : Bool �
     from_end n ih σ a c j u l h o' short T turned =
         let on : (o : d ≤ u) → more (is_zero (eval e σ)) ≡ true → Does W U (laps n (u - d) σ) K L f g (a + d) c j (u - d) =
         λ o z.
-        ih σ (a + d) c j (u - d) (omega arith) (omega arith) o' short (starts u h o' T turned (omega arith) z) (turns u h o' T turned (omega arith) z) in
+        ih σ (a + d) c j (u - d) (omega (arith, B.long)) (omega arith) o' short (starts u h o' T turned (omega arith) z) (turns u h o' T turned (omega arith) z) in
         record {
           goes_on = λ p.
               by_le d u

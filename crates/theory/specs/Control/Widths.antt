@@ -49,6 +49,7 @@ timely-enough w (while d e P) h = (h.0, tt, timely-enough w P h.2)
 timely-enough w (repeat d e P) h = (h.0, tt, timely-enough w P h.2)
 timely-enough w (loop d P) h = (h.0, timely-enough w P h.1)
 timely-enough w exit h = tt
+timely-enough w (call _ none) h = elim none [ ]
 
 pub timely-timed : (w : ℕ) (P : Stmt) → 1 ≤ w → Timely w P → Timed P
 timely-timed w P l h = enough-timed w P l (timely-enough w P h)
@@ -65,6 +66,7 @@ timely-formed w (while d e P) h = (tt, h.1, timely-formed w P h.2)
 timely-formed w (repeat d e P) h = (tt, h.1, timely-formed w P h.2)
 timely-formed w (loop d P) h = (tt, timely-formed w P h.1)
 timely-formed w exit h = tt
+timely-formed w (call _ none) h = elim none [ ]
 
 -- without calls it asks the same
 pub timely-inline : (w : ℕ) → 1 ≤ w → (I : ℕ → Stmt) → ((p : ℕ) → Timely w (I p)) → (P : Code) → Timely w P → Timely w (inline I P)

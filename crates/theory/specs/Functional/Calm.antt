@@ -1,8 +1,8 @@
 -- A functional circuit with nothing in flight: it stays so while its start is quiet, whatever its words are. Assumes nothing.
-use Rattle.std.specs.Prelude.{ℕ, suc, ◌+◌, ◌-◌, ◌≤◌, ◌<◌, ◌≡◌, refl, Bool, false, not, ◌&&◌, ◌||◌, ◌⊎◌}
+use Rattle.std.specs.Prelude.{ℕ, suc, ◌+◌, ◌≤◌, ◌<◌, ◌≡◌, refl, Bool, false, not, ◌&&◌, ◌||◌, ◌⊎◌}
 use Rattle.std.proofs.Common.{◌∙◌, ap, ap₂, subst, ⊎_elim, arith}
 use Rattle.model.specs.Word.{is_zero}
-use Rattle.model.specs.Program.{Expr, Stmt, ok, tick, assign, assign_elem, seq, par, ite, while, repeat, loop, exit}
+use Rattle.model.specs.Program.{Expr, Stmt, ok, tick, assign, assign_elem, seq, par, ite, while, repeat, loop, exit, call}
 use Rattle.model.specs.Circuit.{Sig, delayed}
 use Rattle.model.specs.Rules.{eval}
 use Rattle.theory.specs.Control.Wiring.{either, ◌≈◌}
@@ -102,6 +102,7 @@ net-map E E' c h (repeat d e P) s f v w n =
     }
 net-map E E' c h (loop d P) s f v w n = n
 net-map E E' c h exit s f v w n = n
+net-map E E' c h (call _ none) s f v w n = elim none [ ]
 
 -- A statement that has a functional circuit has no exits
 pub net-closed : (E : Tags) (P : Stmt) (s f : Sig) (v w : Words) → Net E P s f v w → exits P ≡ false
@@ -120,6 +121,7 @@ net-closed E (while d e P) s f v w n = net-closed (lft E) P n.s₁ n.f₁ w n.w�
 net-closed E (repeat d e P) s f v w n = net-closed (lft E) P n.s₁ n.f₁ n.l w n.body
 net-closed E (loop d P) s f v w n = absurd n
 net-closed E exit s f v w n = absurd n
+net-closed E (call _ none) s f v w n = elim none [ ]
 
 pub calm-closed : (E : Tags) (P : Stmt) (a : ℕ) (s f : Sig) (v w : Words) → Calm E P a s f v w → exits P ≡ false
 unfolding Calm
@@ -160,6 +162,7 @@ Flying E (while d e P) a = Held E here (suc d) a ⊎ Flying (lft E) P a
 Flying E (repeat d e P) a = Held E also 1 a ⊎ (Held E here d a ⊎ Flying (lft E) P a)
 Flying E (loop d P) a = ⊥
 Flying E exit a = ⊥
+Flying E (call _ none) a = elim none [ ]
 
 -- what E tells of a delay tells its signal
 abbrev pub Telling : Tags → Type 0
@@ -190,6 +193,7 @@ not_calm E one (repeat d e P) a s f v w n x =
     (⊎_elim (held-not E one here d a n.f₁ n.delay.0 n.delay.1) (not_calm (lft E) (λ p. one (left p)) P a n.s₁ n.f₁ n.l w n.body)) x
 not_calm E one (loop d P) a s f v w n x = x
 not_calm E one exit a s f v w n x = x
+not_calm E one (call _ none) a s f v w n x = elim none [ ]
 
 -- At rest -------------------------------------------------------------------------------------------------------------------------------
 
@@ -384,3 +388,4 @@ rest (while d e P) h = rest-while d e P h.0 (rest P h.2)
 rest (repeat d e P) h = rest-repeat d e P h.0 (rest P h.2)
 rest (loop d P) h = λ E s f v w a b n o q. absurd n
 rest exit h = λ E s f v w a b n o q. absurd n
+rest (call _ none) h = elim none [ ]

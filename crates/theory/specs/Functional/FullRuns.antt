@@ -10,7 +10,6 @@ use native.Mathlib.Omega.{arith}
 use Rattle.std.proofs.Math.Decide.{ℕ_discrete}
 use Rattle.std.proofs.Math.Dec.{ltb}
 use borrow.Author.Tests.{lt-ltb, le-ltb, ne_eqb}
-use Rattle.model.specs.declared.Cell.{Cell}
 use Rattle.model.specs.declared.Format.TheVariants.{Full}
 use Rattle.model.specs.declared.Options.{Options}
 use Rattle.model.specs.declared.Checked.TheVariants.{Accepted}
@@ -149,7 +148,7 @@ module _ (options : Options) (program file words lent : List ℕ) (table : optio
   unfolding run_functional_program_call running retold writing
   program-is forFile fits n l =
       let roomy : ltb (length lent) (state_size Full net) ≡ false = le-ltb (length lent) (state_size Full net) (promise.room Full options program file words lent table e made bytes word_bytes begun) in
-      rw (table, e, ← made, le-ltb 1000000 n l, promise.words-fit Full options program file words lent table e made bytes word_bytes begun, fits, rw made at roomy)
+      rw (e, table, ← made, le-ltb 1000000 n l, promise.words-fit Full options program file words lent table e made bytes word_bytes begun, rw (← made) at fits, roomy)
 
   last-is : (n : ℕ) → n ≤ 1000000
       → record { answer = whole n; lent = left n }

@@ -4,7 +4,7 @@ use Rattle.std.proofs.Math.Path.{refl, fun_ext}
 use Rattle.std.proofs.Common.{sym, subst, arith, eq-eqb}
 use Prim.Native.Nat.{ℕ, zero, suc, ◌+◌}
 use Rattle.model.specs.declared.Cell.{Cell}
-use Rattle.model.specs.Program.{Expr, Stmt, ok, tick, assign, assign_elem, seq, par, ite, while, repeat, loop, exit, writes}
+use Rattle.model.specs.Program.{Expr, Stmt, ok, tick, assign, assign_elem, seq, par, ite, while, repeat, loop, exit, writes, call}
 use Rattle.model.specs.Circuit.{cell, Sig, Values, Elements, level, delayed}
 use Rattle.model.specs.Numbering.{Wires, expr_count, expr_wire, expr_cells, if_delay_count, if_delay_cells}
 use Rattle.laws.specs.Refusals.Laws.{not-both}
@@ -197,3 +197,4 @@ module _ (starts : Sig) (first : ℕ → ℕ) (A : Elements) (W : Values) (C : �
       )
   known_of (loop δ P) z s ws c h g f v w n = absurd n
   known_of exit z s ws c h g f v w n = absurd n
+  known_of (call _ none) z s ws c h g f v w n = elim none [ ]

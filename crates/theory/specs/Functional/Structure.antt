@@ -10,7 +10,7 @@ use Rattle.std.specs.Int.Bits.{bit_and, bit_or, and_zero_r, or_zero_l, or_zero_r
 use Rattle.std.proofs.lemmas.Nat.{and_mask}
 use Rattle.model.specs.declared.Cell.{Cell}
 use Rattle.model.specs.Word.{pick, bit, is_zero, operate}
-use Rattle.model.specs.Program.{Expr, const, var, compl, op, elem, Stmt, ok, tick, assign, assign_elem, seq, par, ite, while, repeat, loop, exit, writes}
+use Rattle.model.specs.Program.{Expr, const, var, compl, op, elem, Stmt, ok, tick, assign, assign_elem, seq, par, ite, while, repeat, loop, exit, writes, call}
 use Rattle.model.specs.Rules.{Store, owner, eval, put, over, kept}
 use Rattle.model.specs.Circuit.{cell, Sig, Values, Elements, level, latch, delayed}
 use Rattle.model.specs.Numbering.{Wires, expr_count, expr_wire, expr_cells, if_delay_count, if_delay_cells, if_pulse}
@@ -182,6 +182,7 @@ module _ (N : ℕ) where
       outs-inside P w.2 (placed (writes P) c ws) (repeat_body e P c) (omega arith) (placed-inside (writes P) c ws (omega arith) h)
   outs-inside (loop δ P) w ws c l h = h
   outs-inside exit w ws c l h = h
+  outs-inside (call _ none) w ws c l h = elim none [ ]
 
 -- a variable that is not written keeps its wire
 pub outs-unwritten : (P : Stmt) (x : ℕ) → writes P x ≡ false → (ws : Wires) (c : ℕ) → outs P ws c x ≡ ws x
@@ -200,6 +201,7 @@ outs-unwritten (repeat δ d P) x e ws c =
     outs-unwritten P x e (placed (writes P) c ws) (repeat_body d P c) ∙ ap (λ (p : Bool). pick p (c + rank (writes P) x) (ws x)) e
 outs-unwritten (loop δ P) x e ws c = refl
 outs-unwritten exit x e ws c = refl
+outs-unwritten (call _ none) x e ws c = elim none [ ]
 
 -- The places of a statement's delays and merges ------------------------------------------------------------------------------------------------
 
@@ -231,6 +233,7 @@ feeds (repeat δ e P) s c here = finish_wire P (c + many (writes P)) (repeat_bod
 feeds (repeat δ e P) s c also = repeat_load e P c
 feeds (loop δ P) s c p = s
 feeds exit s c p = s
+feeds (call _ none) s c p = elim none [ ]
 
 -- the two wires that a merge joins
 unfoldable pub joins : Stmt → ℕ → ℕ → Place → ℕ × ℕ
@@ -260,6 +263,7 @@ joins (repeat δ e P) s c here = (s, s)
 joins (repeat δ e P) s c also = (s, s)
 joins (loop δ P) s c p = (s, s)
 joins exit s c p = (s, s)
+joins (call _ none) s c p = elim none [ ]
 
 -- the signals at each place are those of the cells
 abbrev pub wired : Values → Stmt → ℕ → ℕ → Tags
@@ -502,6 +506,7 @@ module _ (τ : Store) (starts : Sig) (first : ℕ → ℕ) (A : Elements) (W : V
     struct (assign_elem δ k i e) w b s ws c u l h x = absurd b
     struct (loop δ P) w b s ws c i l h x = absurd b
     struct exit w b s ws c i l h x = absurd b
+    struct (call _ none) w b s ws c i l h x = elim none [ ]
 
 -- Nothing in flight, cell by cell -----------------------------------------------------------------------------------------------------------------
 

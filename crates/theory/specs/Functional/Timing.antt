@@ -7,7 +7,7 @@ use Rattle.std.proofs.Common.{◌∙◌, ap, ap₂, arith}
 use Rattle.std.specs.Int.Bits.{bit_or}
 use Rattle.model.specs.Word.{pick}
 use borrow.Author.Tests.{lt-ltb, le-ltb}
-use Rattle.model.specs.Program.{Stmt, ok, tick, assign, assign_elem, seq, par, ite, while, repeat, loop, exit}
+use Rattle.model.specs.Program.{Stmt, ok, tick, assign, assign_elem, seq, par, ite, while, repeat, loop, exit, call}
 use Rattle.model.specs.Circuit.{Sig}
 use Rattle.model.specs.Rules.{functional, Store, eval, put, over, kept, atEnd, ended, still, shows_at, run, due}
 use Rattle.theory.specs.Control.Wiring.{either}
@@ -35,6 +35,7 @@ does (while d e P) h w = run-while d e P h.0 h.2 w.2 (does P h.2 w.2)
 does (repeat d e P) h w = run-repeat d e P h.0 h.2 w.2 (does P h.2 w.2)
 does (loop d P) h w = λ E σ s f v u a b n o B. absurd B.calm
 does exit h w = λ E σ s f v u a b n o B. absurd B.calm
+does (call _ none) h w = elim none [ ]
 
 latches-hold : (c : ℕ → Bool) (p q : Sig) (v w l : Words) (b : ℕ) → Loads c p q v w l → either p q b ≡ false → ((x : ℕ) → v (suc b) x ≡ v b x)
     → (x : ℕ) → l (suc b) x ≡ l b x
@@ -70,6 +71,7 @@ holds_on E (repeat d e P) s f v w b n h x =
     (latches-hold (written P) s n.g v w n.l b n.latches (n.load.0 b (omega arith) (omega arith)) h) x
 holds_on E (loop d P) s f v w b n h x = absurd n
 holds_on E exit s f v w b n h x = absurd n
+holds_on E (call _ none) s f v w b n h x = elim none [ ]
 
 -- A pulse at a, with nothing in flight, and no other up to b; on [a, b] the words are σ
 module _ (E : Tags) (P : Stmt) (timed : Timed P) (formed : Formed P) (σ : Store) (s f : Sig) (v w : Words) (a b : ℕ) (B : Begins E P σ s f v w a b) where

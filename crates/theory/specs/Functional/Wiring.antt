@@ -3,7 +3,7 @@
 use Rattle.std.specs.Prelude.{ℕ, suc, ◌≡◌, Bool, true, false, not, ◌&&◌, ◌||◌}
 use Rattle.std.specs.Int.Bits.{bit_or}
 use Rattle.model.specs.Word.{pick, is_zero}
-use Rattle.model.specs.Program.{Expr, Stmt, ok, tick, assign, assign_elem, seq, par, ite, while, repeat, loop, exit, writes}
+use Rattle.model.specs.Program.{Expr, Stmt, ok, tick, assign, assign_elem, seq, par, ite, while, repeat, loop, exit, writes, call}
 use Rattle.model.specs.Rules.{Store, owner, eval, put, kept}
 use Rattle.model.specs.Circuit.{Sig, delayed}
 use Rattle.theory.specs.Control.Wiring.{◌≈◌, either}
@@ -134,3 +134,4 @@ Net E (while d e P) s f v w = While (written P) d e (Net (lft E) P) (E.delay her
 Net E (repeat d e P) s f v w = Repeat (written P) d e (Net (lft E) P) (E.delay also 1) (E.delay here d) s f v w
 Net E (loop d P) s f v w = ⊥
 Net E exit s f v w = ⊥
+Net E (call _ none) s f v w = elim none [ ]

@@ -7,7 +7,6 @@ use mathlib.Core.List.{List, [], ◌∷◌, ◌++◌}
 use Prim.Native.Nat.{ℕ, zero, suc, ◌+◌, ◌<◌}
 use native.Mathlib.Omega.{arith}
 use Rattle.model.specs.declared.Cell.{Cell}
-use Rattle.model.specs.Word.{index, element_word}
 use Rattle.model.specs.Program.{array_var, Expr, const, var, compl, op, elem, Code, ok, tick, assign, assign_elem, seq, par, ite, while, repeat, loop, exit, call}
 use Rattle.model.specs.Circuit.{cell, Sig, Values, Elements, level, delayed}
 use Rattle.model.specs.Numbering.{Wires, expr_count, expr_wire, expr_cells, if_delay_count, if_pulse, if_delay_cells, delay_count, walk_count, exits_at, finish_wire, loop_exits, delays, walk, clock_sources, data_sources, address_sources, call_sources}

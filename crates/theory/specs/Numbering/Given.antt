@@ -6,7 +6,7 @@ use Rattle.std.proofs.Common.{ap, ◌∙◌, arith, ne_eqb}
 use Rattle.model.specs.Program.{Code, Program, roots}
 use Rattle.model.specs.Procedures.{body_at}
 use Rattle.model.specs.Circuit.{Sig, Values, level, Obeys}
-use Rattle.model.specs.Numbering.{circuit_of, Source, clock_sources, data_sources, address_sources, call_sources, calls_of, root_sources, root_walk_sources, netlist, walk_place}
+use Rattle.model.specs.Numbering.{circuit_of, Source, clock_sources, data_sources, address_sources, call_sources, calls_of, root_sources, root_walk_sources, walk_place}
 use Rattle.laws.specs.Program.Enclosed.{root_at}
 use Rattle.laws.specs.Program.Admitted.{Admitted, each-root, root-count, body-at, main-at, body-is-root, main-is-root}
 use Rattle.theory.specs.Control.Wiring.{Gives}

@@ -10,7 +10,6 @@ use native.Mathlib.Omega.{arith}
 use Rattle.model.specs.declared.Cell.{Cell}
 use Rattle.model.specs.Word.{index, element_word, operate}
 use Rattle.model.specs.Program.{Expr, const, var, compl, op, elem, time, Code, ok, tick, assign, assign_elem, seq, par, ite, while, repeat, loop, exit, call, array_var}
-use Rattle.model.specs.Rules.{eval}
 use Rattle.model.specs.Circuit.{cell, Sig, Values, Elements, Shape, shape, equation, level, delayed}
 use Rattle.model.specs.Gates.{past, gate}
 use Rattle.model.specs.Numbering.{Wires, expr_count, expr_wire, expr_cells, if_delay_count, if_pulse, if_delay_cells, delay_count, walk_count, exits_at, finish_wire, loop_exits, delays, walk, clock_sources, data_sources, address_sources, call_sources}

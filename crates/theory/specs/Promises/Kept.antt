@@ -7,7 +7,6 @@ use Rattle.std.proofs.Common.{sym, ◌∙◌, arith, ltb-false}
 use mathlib.Core.List.{List, ◌∷◌, map}
 use Rattle.std.proofs.Math.ListN.{take}
 use Rattle.std.proofs.Math.Seq.{take-append_seam}
-use Rattle.model.specs.declared.Cell.{Cell}
 use Rattle.model.specs.declared.Format.{Format}
 use Rattle.model.specs.declared.Options.{Options}
 use Rattle.model.specs.declared.Checked.{Checked}

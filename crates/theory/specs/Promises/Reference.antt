@@ -13,7 +13,7 @@ use Rattle.model.specs.Refusals.{first}
 use Rattle.model.specs.Program.{program_of, Stmt}
 use Rattle.model.specs.Procedures.{inlined, meaning}
 use Rattle.model.specs.ProgramChecks.{program_with}
-use Rattle.model.specs.Rules.{imperative, Store, Ends, ended, run, atEnd}
+use Rattle.model.specs.Rules.{imperative, Store, Ends, run, atEnd}
 use Rattle.model.specs.Circuit.{high}
 use Rattle.model.specs.NetlistFile.{net_of, finish_of}
 use Rattle.model.specs.State.{state_size, now_at, begin_state}

@@ -14,14 +14,14 @@ use Rattle.model.specs.declared.Format.TheVariants.{Full, Compact}
 use Rattle.model.specs.Refusals.{refuse_if, first}
 use Rattle.model.specs.Program.{time_in}
 use Rattle.model.specs.Procedures.{meaning}
-use Rattle.model.specs.ProgramChecks.{reading, program_checks, program_with, check_of}
+use Rattle.model.specs.ProgramChecks.{program_checks, program_with, check_of}
 use Rattle.model.specs.Rules.{imperative, run}
 use Rattle.model.specs.Circuit.{Values, level}
 use Rattle.model.specs.Numbering.{netlist, finish}
 use Rattle.model.specs.NetlistFile.{net_of, pulse_wrong, count_wrong, file_checks, file_check, blocks_for, file_of, cell_bytes, cells_of, count_of, finish_of}
 use Rattle.model.specs.TimeTables.{given_checks, given_check, table_checks, verdict_of, Given, load}
 use Rattle.model.specs.State.{state_size, begin_state, step_state, crowded, crowding}
-use Rattle.model.specs.Calls.{verdict, check_call, writing, compiled_file, compile_checks, compile_call, cells_in, write_checks, write_call, read_checks, read_call, word_at, begin_checks, begin_call, continue_call, busy, start_checks, start_call, full_state, full_count, run_netlist_checks, run_netlist_call, run_program_checks, run_program_call, reference_answer, reference_checks, reference_call}
+use Rattle.model.specs.Calls.{verdict, check_call, compiled_file, compile_checks, compile_call, cells_in, write_checks, write_call, read_checks, read_call, word_at, begin_checks, begin_call, continue_call, busy, start_checks, start_call, full_state, full_count, run_netlist_checks, run_netlist_call, run_program_checks, run_program_call, reference_answer, reference_checks, reference_call}
 use Rattle.model.specs.Gates.{slowly, end_at, slow_answer, slow_size, with_pulse, slow_program, slow_run_checks, slow_running, slow_run_call}
 use Rattle.model.specs.CellSlices.{behind, check_cells_checks, check_cells_call, write_cells_checks, write_cells_call, read_cells_checks, read_cells_call}
 use Rattle.model.specs.RefusalPromises.{Refuses, table_numbers, given_numbers, program_numbers, file_numbers, long_numbers, just, Leaves, Demand1}

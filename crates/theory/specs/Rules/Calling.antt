@@ -2,7 +2,7 @@
 -- statement what its rules without calls say, and such a table exists.
 -- Assumes nothing.
 use Prim.Native.Nat.{ℕ, zero, suc, ◌<◌, ◌≤◌}
-use Rattle.std.specs.Prelude.{◌≡◌, refl, false, List, ◌↔◌, ◌⊎◌, length}
+use Rattle.std.specs.Prelude.{◌≡◌, refl, false, List, ◌↔◌, length}
 use Rattle.std.proofs.Common.{sym, arith}
 use Rattle.std.proofs.Math.Path.{subst}
 use Rattle.std.proofs.Math.Logic.{inl, inr, ⊎_elim}

@@ -6,7 +6,7 @@ use Prim.Native.Nat.{ℕ, zero, suc, ◌+◌, ◌-◌, ◌≤◌, ◌<◌, max}
 use Rattle.std.specs.Prelude.{◌≡◌, refl, Bool, true, false, ltb}
 use Rattle.std.proofs.Common.{sym, ◌∙◌, ap, true≢false, inl, inr, arith, ltb-true, lt-ltb}
 use Rattle.model.specs.Word.{is_zero, element_word}
-use Rattle.model.specs.Program.{Expr, Stmt, ok, tick, assign, assign_elem, seq, par, ite, while, repeat, loop, exit}
+use Rattle.model.specs.Program.{Expr, Stmt, ok, tick, assign, assign_elem, seq, par, ite, while, repeat, loop, exit, call}
 use Rattle.model.specs.Rules.{Costs, extended, Postponed, postponed, Store, eval, put, kept, Course, WhileEnds, WhileLeaves, RepeatEnds, RepeatLeaves, LoopEnds, Ends, Leaves, Way, atEnd, Run, done, ended, left, wait, chain, whiles, repeats, loops, run, shows_at, due}
 use Rattle.laws.specs.Program.Fit.{Timed}
 use Rattle.laws.specs.Refusals.Laws.{by_bool}
@@ -177,6 +177,7 @@ run-by-rules κ (loop d P) k σ t σ' = (
   λ p. not-way (sym (caught-done (loops (λ k σ. run κ k P σ) d (suc k) k σ) p).2),
 )
 run-by-rules κ exit k σ t σ' = (λ p. not-way (sym (done-way p)), λ p. (sym (done-time p), sym (done-words p)))
+run-by-rules κ (call _ none) k σ t σ' = elim none [ ]
 
 -- a run that ended within any budget is an end, at the same time and with the same words
 pub run_ends : (κ : Costs) (P : Stmt) (k : ℕ) (σ : Store) (t : ℕ) (σ' : Store) → run κ k P σ ≡ ended t σ' → Ends κ P σ t σ'
@@ -369,6 +370,7 @@ rules-run κ (loop d P) h σ t σ' = (
   λ E k l. absurd E,
 )
 rules-run κ exit h σ t σ' = (λ E k l. absurd E, λ E k l. rw (E.0, E.1))
+rules-run κ (call _ none) h σ t σ' = elim none [ ]
 
 -- and an end is what the run gives within any budget of at least its time
 pub ends-run : (κ : Costs) (P : Stmt) → Timed P → (σ : Store) (t : ℕ) (σ' : Store) → Ends κ P σ t σ' → (k : ℕ) → t ≤ k → run κ k P σ ≡ ended t σ'

@@ -6,7 +6,6 @@ use Rattle.std.proofs.Common.{sym, ◌∙◌, ap, inr, arith, eqb-true}
 use Rattle.std.proofs.Math.Bool.{Bool, not}
 use Prim.Native.Nat.{ℕ, ◌+◌, ◌*◌, ◌<◌, ◌≤◌}
 use Rattle.std.proofs.lemmas.Bool.{eqb-false}
-use Rattle.model.specs.declared.Cell.{Cell}
 use Rattle.model.specs.declared.Format.{Format}
 use Rattle.model.specs.Word.{pick, index, element_of, put16}
 use Rattle.model.specs.Circuit.{Netlist, cell_at, high, array_at}

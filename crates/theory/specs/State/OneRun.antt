@@ -3,7 +3,6 @@
 -- Assumes nothing.
 use Rattle.std.specs.Prelude.{◌≡◌, refl, true, List, ℕ, suc, ◌-◌, ◌<◌, ◌≤◌, length}
 use Rattle.std.proofs.Common.{ap, arith}
-use Rattle.model.specs.declared.Cell.{Cell}
 use Rattle.model.specs.declared.Format.{Format}
 use Rattle.model.specs.declared.Checked.TheVariants.{Accepted}
 use Rattle.model.specs.Circuit.{Netlist, Sig, Values, high, level, Obeys}

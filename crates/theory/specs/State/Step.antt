@@ -4,7 +4,6 @@ use Rattle.std.specs.Prelude.{true, List, ◌≡◌, ℕ, zero, suc, ◌+◌, �
 use Rattle.std.proofs.Math.Path.{sym, ap, refl}
 use Rattle.std.proofs.Common.{◌∙◌, arith}
 use Rattle.std.proofs.Math.ListN.{length}
-use Rattle.model.specs.declared.Cell.{Cell}
 use Rattle.model.specs.declared.Format.{Format}
 use Rattle.model.specs.Word.{bit, index, element_of}
 use Rattle.model.specs.Circuit.{Netlist, cell_at, Sig, Values, high, level, delayed, remaining_before, merges, step_of, memory, latch, element, array_at, start_word, Obeys, kStart, kDelay, kMemory, kLatch, kRead}

@@ -1,6 +1,6 @@
 -- The nodes of a list of node bytes are those nodes again, and the program that a reading's bytes are is the reading.
 -- Assumes nothing.
-use Rattle.std.specs.Prelude.{◌≡◌, List, [], ◌∷◌, ℕ, ◌-◌, get_or}
+use Rattle.std.specs.Prelude.{◌≡◌, List, [], ◌∷◌, ℕ, get_or}
 use Rattle.std.proofs.Common.{◌∙◌, ap}
 use Rattle.laws.specs.Program.NodeBytes.{nodes-back}
 use Rattle.model.specs.declared.texts.Token.{Token}

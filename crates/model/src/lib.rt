@@ -8,28 +8,28 @@ pub mod sizes; // sizes and limits, for code
 pub mod texts; // tokens and modes, for the reader of a text
 
 // A refusal: its number, and its place.
-#[derive(Drop)]
+#[derive(Clone, Copy)]
 pub struct Refusal {
     pub number: u8,
     pub place: usize,
 }
 
 // The answer of a check.
-#[derive(Drop)]
+#[derive(Clone, Copy)]
 pub enum Checked {
     Accepted,
     Refused(Refusal),
 }
 
 // The answer of a call that writes: how many bytes of a file, or cells of a list, it wrote, and the finish cell.
-#[derive(Drop)]
+#[derive(Clone, Copy)]
 pub enum Written {
     Done { count: usize, finish: u16 },
     Refused(Refusal),
 }
 
 // How a run stands: the finish wire is high, or it is not, or the call was refused.
-#[derive(Drop)]
+#[derive(Clone, Copy)]
 pub enum Outcome {
     Ended,
     Open,
@@ -37,7 +37,7 @@ pub enum Outcome {
 }
 
 // The answer of a run: the sixteen words stand beside the outcome.
-#[derive(Drop)]
+#[derive(Clone, Copy)]
 pub struct Answer {
     pub outcome: Outcome,
     pub instant: u32,
@@ -46,7 +46,7 @@ pub struct Answer {
 }
 
 // A node of a program, four bytes.
-#[derive(Drop)]
+#[derive(Clone, Copy)]
 pub struct Node {
     pub kind: u8,
     pub delay: u8,
@@ -55,7 +55,7 @@ pub struct Node {
 
 // What is given beside a program: what the check of its table says, the operator times, that of each kind from kind 0 on, the number of
 // procedures, and the pulse length.
-#[derive(Drop)]
+#[derive(Clone, Copy)]
 pub struct Options {
     pub checked: Checked,
     pub times: [u8; 11],
@@ -65,7 +65,7 @@ pub struct Options {
 
 // A cell of a netlist, six bytes; callers in other languages lend slices of them.
 #[repr(C)]
-#[derive(Drop)]
+#[derive(Clone, Copy)]
 pub struct Cell {
     pub kind: u8,
     pub delay: u8,
@@ -74,21 +74,21 @@ pub struct Cell {
 }
 
 // The two bits that a merge cell holds between instants.
-#[derive(Drop)]
+#[derive(Clone, Copy)]
 pub struct Merge {
     pub a: bool,
     pub b: bool,
 }
 
 // How a state keeps its lines: the last 256 inputs of each, or one number for each.
-#[derive(Drop)]
+#[derive(Clone, Copy)]
 pub enum Format {
     Full,
     Compact,
 }
 
 // What a merge holds after an instant, and its output.
-#[derive(Drop)]
+#[derive(Clone, Copy)]
 pub struct Merged {
     pub held: Merge,
     pub out: bool,

@@ -2,14 +2,14 @@
 // definition can speak of no type of a crate above its own.
 
 // A token of a program's text; specs/Text says what its code and value mean.
-#[derive(Drop)]
+#[derive(Clone, Copy)]
 pub struct Token {
     pub code: u8,
     pub value: u16,
 }
 
 // What the reader of a text expects next; specs/Reader says what it does then.
-#[derive(Drop)]
+#[derive(Clone, Copy)]
 pub enum Mode {
     Statement,
     AfterStatement,

@@ -15,7 +15,7 @@ use model::sizes::{BLOCK, BLOCK_CELLS, BLOCK_HEADER, BLOCK_LAST, CELL, MOST_CELL
 use model::{Cell, Checked, Refusal};
 
 // The first three words of a block.
-#[derive(Drop)]
+#[derive(Clone, Copy)]
 pub struct BlockHeader {
     pub number: u16,
     pub count: u16,

@@ -9,7 +9,7 @@ use model::Cell;
 use model::sizes::{BLOCK, BLOCK_CELLS, BLOCK_HEADER, CELL};
 
 // Cells one after another, or in the blocks of a file.
-#[derive(Drop)]
+#[derive(Clone, Copy)]
 pub enum Layout {
     InList,
     InFile,

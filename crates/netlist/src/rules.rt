@@ -22,7 +22,7 @@ const LAST_CELLS: usize = 16;
 
 // A netlist of n cells, and what is found of its first ones: how many of them keep the rules, how many are memories, where the
 // arrays' cells begin, and whether the finish is among them and is a control wire.
-#[derive(Drop)]
+#[derive(Clone, Copy)]
 pub struct Scan {
     pub n: usize,
     pub finish: usize,

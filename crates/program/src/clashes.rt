@@ -12,7 +12,7 @@ use model::sizes::NODE;
 use model::{Checked, Node};
 
 // What a node or a statement may do: write a variable, read or write it, or call a procedure; array n is variable 16 + n.
-#[derive(Drop)]
+#[derive(Clone, Copy)]
 enum Mark {
     Writes(u16),
     Touches(u16),

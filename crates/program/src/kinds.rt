@@ -6,7 +6,7 @@ ghost use Rattle.model.specs.Program.{row_of};
 use model::kinds::Row;
 
 // A row of the table in one line: sort, delay, number, exprs, stmts.
-#[derive(Drop)]
+#[derive(Clone, Copy)]
 struct Line(u8, u8, u8, u8, u8);
 
 // The paper's table, but for its times: entry k is the row of kind k.

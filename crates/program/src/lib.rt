@@ -23,7 +23,7 @@ use model::sizes::NODE;
 use model::{Checked, Options, Refusal};
 
 // What the check answers, with each node's expression time and the node after its subtree.
-#[derive(Drop)]
+#[derive(Clone, Copy)]
 pub struct Scanned {
     pub checked: Checked,
     pub times: [u16; 200],

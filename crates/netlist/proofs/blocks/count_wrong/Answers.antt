@@ -1,0 +1,9 @@
+-- `blocks::count_wrong` meets its contract. Assumes nothing.
+use Rattle.std.proofs.Common.{refl, rules}
+use Rattle.model.specs.NetlistFile.{count_wrong}
+use Rattle.netlist.proofs.blocks.count_wrong.Goals as goal
+
+pub returns : goal.returns
+unfolding count_wrong
+returns c =
+    refl

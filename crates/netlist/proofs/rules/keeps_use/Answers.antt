@@ -1,0 +1,41 @@
+-- `rules::keeps_use` meets its contract: in each arm the use is known, and both sides are the same tests. Assumes nothing.
+use Rattle.std.proofs.Common.{refl, rules}
+use Rattle.model.specs.Circuit.{names}
+use Rattle.model.specs.NetlistFile.{control_in, word_in, array_in, kept}
+use Rattle.netlist.proofs.rules.keeps_use.Goals as goal
+
+pub returns-in-Unknown : goal.returns-in-Unknown
+unfolding kept
+returns-in-Unknown c = λ net n s. rw c.in-Unknown.is refl
+
+pub returns-in-Unused : goal.returns-in-Unused
+unfolding kept
+returns-in-Unused c = λ net n s. rw c.in-Unused.is refl
+
+pub returns-in-Value : goal.returns-in-Value
+unfolding kept
+returns-in-Value c = λ net n s. rw c.in-Value.is refl
+
+pub returns-in-Positive : goal.returns-in-Positive
+unfolding kept
+returns-in-Positive c = λ net n s. rw c.in-Positive.is refl
+
+pub returns-in-ControlBelow : goal.returns-in-ControlBelow
+unfolding kept control_in names
+returns-in-ControlBelow c = let u = c.in-ControlBelow.is in λ net n s. rw (u, c.is_control.ensures, s (rw u refl)) refl
+
+pub returns-in-ControlAny : goal.returns-in-ControlAny
+unfolding kept control_in names
+returns-in-ControlAny c = let u = c.in-ControlAny.is in λ net n s. rw (u, c.is_control-in-ControlAny.ensures, s (rw u refl), n) refl
+
+pub returns-in-WordBelow : goal.returns-in-WordBelow
+unfolding kept word_in names
+returns-in-WordBelow c = let u = c.in-WordBelow.is in λ net n s. rw (u, c.is_IsWord.ensures, s (rw u refl)) refl
+
+pub returns-in-WordAny : goal.returns-in-WordAny
+unfolding kept word_in names
+returns-in-WordAny c = let u = c.in-WordAny.is in λ net n s. rw (u, c.is_word-in-WordAny.ensures, s (rw u refl), n) refl
+
+pub returns-in-ArrayBelow : goal.returns-in-ArrayBelow
+unfolding kept array_in names
+returns-in-ArrayBelow c = let u = c.in-ArrayBelow.is in λ net n s. rw (u, s (rw u refl)) refl

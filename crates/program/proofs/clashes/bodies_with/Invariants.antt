@@ -1,0 +1,18 @@
+-- Which bodies do it: the array has it of the first p.
+use mathlib.Core.Path.{◌≡◌, refl, sym, ◌∙◌}
+use Prim.Native.Nat.{◌-◌, ◌≤◌}
+use native.Mathlib.Omega.{arith}
+use lib.ListN.{length, length-set}
+use Rattle.model.specs.Program.{program_of}
+use Rattle.laws.specs.Program.Passed.{count-bodies}
+use Rattle.program.specs.Uses.{side-known}
+use Rattle.program.specs.Roots.{root-side, body_is}
+use Rattle.program.proofs.Bodies.{Staged, staged-none, staged-more, stage-all}
+use Rattle.program.proofs.clashes.bodies_with.Given as goal
+
+abbrev pub invariant-loop-p : goal.invariant-loop-p
+invariant-loop-p l =
+    (l.p ≤ l.procedures) × (length l.bodies ≡ 8) × Staged (program_of 1 l.procedures l.program).bodies l.mark l.p l.bodies
+
+abbrev pub decreases-loop-p : goal.decreases-loop-p
+decreases-loop-p l = l.procedures - l.p

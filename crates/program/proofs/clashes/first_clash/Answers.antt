@@ -1,0 +1,97 @@
+-- Refusal 8 or 25: the answer from node 0 is the answer from node i; at a parallel node, the sides cross on no number below x.
+use mathlib.Core.Path.{◌≡◌, sym, ◌∙◌, ap, ap₂}
+use mathlib.Core.Bool.{true, false, ◌||◌}
+use mathlib.Core.Logic.{⊎_elim}
+use Prim.Native.Nat.{ℕ, ◌+◌, ◌-◌, ◌≤◌}
+use native.Mathlib.Omega.{arith}
+use Rattle.model.specs.Word.{pick}
+use Rattle.model.specs.Refusals.{refuse}
+use Rattle.model.specs.Program.{node_count, stmt_at, program_of}
+use Rattle.laws.specs.Refusals.Search.{Searched, searched-none, fault-here, fault-next, faults-end}
+use Rattle.laws.specs.Program.Passed.{count-bodies}
+use Rattle.program.specs.Ends.{past-trees}
+use Rattle.program.specs.Uses.{sides}
+use Rattle.program.specs.Roots.{clash_fault}
+use Rattle.program.proofs.Crossing.{few-x, some_number, none_below, none-start, none-next, crosses-none, crosses_some, clash-par, clash-other, clash-fault}
+use Rattle.program.proofs.clashes.first_clash.Goals as goal
+
+pub nodes-init : goal.nodes-init
+nodes-init c = searched-none _ _
+
+pub next-second-requires : goal.next-second-requires
+next-second-requires c =
+    let pre = c.requires in
+    omega (arith, pre.readable.short)
+
+pub loop-x-init : goal.loop-x-init
+loop-x-init c = (omega arith, none-start _ _ _ _)
+
+pub overflow_cast-n : goal.overflow_cast-n
+overflow_cast-n c =
+    let start = c in
+    let few = few-x start.args.shared start.requires.readable.few c.most_of-most.ensures in
+    omega (arith, few, c.loop-x-test.true)
+
+pub crosses-requires : goal.crosses-requires
+crosses-requires c =
+    let pre = c.requires in
+    let two = sides _ _ _ pre.readable pre.laid _ c.nodes-test.true _ c.read_node-node.ensures c.if-node-eq20.true _ c.next-second.ensures in
+    (pre, two.0, two.1)
+
+pub crosses-requires-in-loop-x : goal.crosses-requires-in-loop-x
+crosses-requires-in-loop-x c =
+    let pre = c.requires in
+    let two = sides _ _ _ pre.readable pre.laid _ c.nodes-test.true _ c.read_node-node.ensures c.if-node-eq20.true _ c.next-second.ensures in
+    search (pre, two.0, two.1)
+
+pub loop-x-preserved : goal.loop-x-preserved
+loop-x-preserved c =
+    let loop = c.loop-x in
+    let loop-test = c.loop-x-test in (
+      omega (arith, loop-test.true),
+      none-next _ _ _ _ _ loop.invariant.1 (sym (ap₂ ◌||◌ c.crosses.ensures c.crosses-in-loop-x.ensures) ∙ c.if-crosses.false),
+    )
+
+pub nodes-preserved-then-node-eq20 : goal.nodes-preserved-then-node-eq20
+nodes-preserved-then-node-eq20 c =
+    let start = c in
+    let pre = start.requires in
+    let nodes = c.nodes in
+    let nodes-test = c.nodes-test in
+    let loop = c.loop-x in
+    let most-of = c.most_of-most in
+    let next = c.next-second in
+    let e : loop.x ≡ most-of.result = omega (arith, loop.invariant.0, c.loop-x-test.false) in
+    let all = e ∙ most-of.ensures ∙ ap (λ (n : ℕ). pick start.args.shared n 20) (sym (count-bodies _ _ pre.readable 1)) in
+    fault-next nodes.invariant nodes-test.true
+    (clash-fault _ _ _ _ false
+    (crosses-none _ _ _ _ _ all loop.invariant.1
+    ∙ clash-par _ _ _ _ nodes-test.true _ c.read_node-node.ensures c.if-node-eq20.true _ (past-trees _ _ _ (pre.laid.each _) _ next.ensures)))
+
+pub nodes-preserved : goal.nodes-preserved
+nodes-preserved c =
+    let nodes = c.nodes in
+    let nodes-test = c.nodes-test in
+    fault-next nodes.invariant nodes-test.true (clash-fault _ _ _ _ false (clash-other _ _ _ _ nodes-test.true _ c.read_node-node.ensures c.if-node-eq20.false))
+
+pub returns-then-i-count : goal.returns-then-i-count
+returns-then-i-count c =
+    let start = c in
+    let pre = start.requires in
+    let nodes = c.nodes in
+    let most-of = c.most_of-most in
+    let clash-number = c.clash_number in
+    let all = most-of.ensures ∙ ap (λ (n : ℕ). pick start.args.shared n 20) (sym (count-bodies _ _ pre.readable 1)) in
+    ⊎_elim (λ w. absurd (omega (arith, w.left, c.if-i-count.true)))
+    (λ w.
+    c.refused.ensures
+    ∙ ap (λ (n : ℕ). refuse n nodes.i) clash-number.ensures
+    ∙ fault-here nodes.invariant (pick start.args.shared 25 8) w.0.taken (some_number start.args.shared)
+    (clash-fault _ _ _ _ true
+    (crosses_some _ _ _ _ _ all _ w.6.taken (sym (ap₂ ◌||◌ w.7.ensures w.8.ensures) ∙ w.9.taken)
+    ∙ clash-par _ _ _ _ w.0.taken _ w.1.ensures w.3.taken _ (past-trees _ _ _ (pre.laid.each _) _ w.4.ensures))))
+    c.nodes-test.branch
+
+pub returns : goal.returns
+returns c =
+    faults-end c.nodes.invariant c.if-i-count.false

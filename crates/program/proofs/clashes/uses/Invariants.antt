@@ -1,0 +1,16 @@
+-- What a statement does: whether its nodes do it is whether those from node k on do.
+use mathlib.Core.Path.{◌≡◌, refl, sym, ◌∙◌, ap}
+use mathlib.Core.Bool.{false}
+use Prim.Native.Nat.{◌-◌}
+use native.Mathlib.Omega.{arith}
+use lib.ListN.{get_or}
+use Rattle.model.specs.Program.{nodes_from}
+use Rattle.program.specs.Uses.{any_marked, marked-here, marked_next, marked-end, side-within, side-nodes}
+use Rattle.program.proofs.clashes.uses.Given as goal
+
+abbrev pub invariant-loop-k : goal.invariant-loop-k
+invariant-loop-k l =
+    any_marked l.mark (λ p. get_or l.bodies p false) (nodes_from l.program l.i (l.end - l.i)) ≡ any_marked l.mark (λ p. get_or l.bodies p false) (nodes_from l.program l.k (l.end - l.k))
+
+abbrev pub decreases-loop-k : goal.decreases-loop-k
+decreases-loop-k l = l.end - l.k

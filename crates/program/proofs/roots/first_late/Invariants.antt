@@ -1,0 +1,14 @@
+-- Refusal 24 in a root: the answer from its first node is the answer from node k.
+use mathlib.Core.Path.{◌≡◌, refl, sym, ◌∙◌}
+use Prim.Native.Nat.{◌-◌}
+use native.Mathlib.Omega.{arith}
+use Rattle.model.specs.Program.{nodes_from}
+use Rattle.program.specs.Uses.{side-within}
+use Rattle.program.proofs.Late.{late_nodes, late-here, late-next, late-end, late-side}
+use Rattle.program.proofs.roots.first_late.Given as goal
+
+abbrev pub invariant-loop-k : goal.invariant-loop-k
+invariant-loop-k l = late_nodes l.r (nodes_from l.program l.i (l.end - l.i)) l.i ≡ late_nodes l.r (nodes_from l.program l.k (l.end - l.k)) l.k
+
+abbrev pub decreases-loop-k : goal.decreases-loop-k
+decreases-loop-k l = l.end - l.k

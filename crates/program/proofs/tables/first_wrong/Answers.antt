@@ -1,0 +1,24 @@
+-- Refusal 21: the answer from byte 0 is the answer from byte i.
+use mathlib.Core.Path.{sym, ◌∙◌}
+use Prim.Native.Nat.{◌-◌}
+use native.Mathlib.Omega.{arith}
+use Rattle.model.specs.TimeTables.{table_fault}
+use Rattle.laws.specs.Refusals.Search.{Searched, searched-none, fault-here, fault-next, faults-end}
+use Rattle.program.proofs.TimeTables.{wrong_byte, right-byte}
+use Rattle.program.proofs.tables.first_wrong.Goals as goal
+
+pub loop-i-init : goal.loop-i-init
+loop-i-init c = searched-none _ _
+
+pub returns-then-byte_wrong : goal.returns-then-byte_wrong
+returns-then-byte_wrong c =
+    let loop = c.loop-i in
+    c.refused.ensures ∙ fault-here loop.invariant 21 c.loop-i-test.true (omega arith) (wrong_byte _ _ (sym c.byte_wrong.ensures ∙ c.if-byte_wrong.true))
+
+pub loop-i-preserved : goal.loop-i-preserved
+loop-i-preserved c =
+    let loop = c.loop-i in
+    fault-next loop.invariant c.loop-i-test.true (right-byte _ _ (sym c.byte_wrong.ensures ∙ c.if-byte_wrong.false))
+
+pub returns : goal.returns
+returns c = faults-end c.loop-i.invariant c.loop-i-test.false

@@ -9,7 +9,7 @@ use Rattle.netlist.proofs.read_netlist.Goals as goal
 pub returns-in-Refused : goal.returns-in-Refused
 returns-in-Refused c =
     let args = c.args in
-    read-refused args.file.now args.cells.now (sym c.check_file-checked.ensures ∙ c.in-Refused.is)
+    let clauses = read-refused args.file.now args.cells.now (sym c.check_file-checked.ensures ∙ c.in-Refused.is) in record { answer = clauses.0; lent = clauses.1 }
 
 pub get16-count-requires : goal.get16-count-requires
 get16-count-requires c =
@@ -28,7 +28,7 @@ returns-then-cells-count c =
     let args = c.args in
     let check-file = c.check_file-checked in
     let accepted = sym check-file.ensures ∙ c.in_default.is in
-    read_short args.file.now args.cells.now accepted c.get16-count.ensures c.if-cells-count.true
+    let clauses = read_short args.file.now args.cells.now accepted c.get16-count.ensures c.if-cells-count.true in record { answer = clauses.0; lent = clauses.1 }
 
 pub put_cells-requires : goal.put_cells-requires
 put_cells-requires c =
@@ -45,9 +45,9 @@ pub returns : goal.returns
 returns c =
     let args = c.args in
     let check-file = c.check_file-checked in
-    let enum_told = c.enum_told-1 in
+    let enum_told = c.in_default in
     let get16 = c.get16-count in
     let get162 = c.get16-finish in
-    let accepted = sym check-file.ensures ∙ enum_told.given.1 in
-    read_done args.file.now args.cells.now accepted get16.ensures get162.ensures c.if-cells-count.false
-    c.put_cells.ensures
+    let accepted = sym check-file.ensures ∙ c.in_default.is in
+    let clauses = read_done args.file.now args.cells.now accepted get16.ensures get162.ensures c.if-cells-count.false
+    c.put_cells.ensures in record { answer = clauses.0; lent = clauses.1 }

@@ -12,7 +12,7 @@ overflow_mul-count c = omega (arith, c.requires.0.few)
 pub returns-then-file-count : goal.returns-then-file-count
 returns-then-file-count c =
     let args = c.args in
-    file-short args.pulse args.cells.now args.n args.finish args.file.now c.if-file-count.true
+    let clauses = file-short args.pulse args.cells.now args.n args.finish args.file.now c.if-file-count.true in record { answer = clauses.0; lent = clauses.1 }
 
 pub put_file-requires : goal.put_file-requires
 put_file-requires c =
@@ -22,4 +22,4 @@ put_file-requires c =
 pub returns : goal.returns
 returns c =
     let args = c.args in
-    file-done args.pulse args.cells.now args.n args.finish args.file.now c.if-file-count.false c.put_file.ensures
+    let clauses = file-done args.pulse args.cells.now args.n args.finish args.file.now c.if-file-count.false c.put_file.ensures in record { answer = clauses.0; lent = clauses.1 }

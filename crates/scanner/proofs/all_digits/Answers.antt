@@ -12,13 +12,13 @@ use Rattle.scanner.proofs.all_digits.Goals as goal
 pub returns-then-not-is_digit : goal.returns-then-not-is_digit
 returns-then-not-is_digit c =
     let at = c in
-    let digit = sym c.is_digit.ensures ∙ not-true c.is_digit.result c.if-not-is_digit.true in
+    let digit = sym c.is_digit.ensures ∙ c.if-not-is_digit.true in
     sym (at.loop-i.invariant ∙ digits-stop at.args.w.now c.loop-i-test.true digit)
 
 pub loop-i-preserved : goal.loop-i-preserved
 loop-i-preserved c =
     let at = c in
-    let digit = sym c.is_digit.ensures ∙ not-false c.is_digit.result c.if-not-is_digit.false in
+    let digit = sym c.is_digit.ensures ∙ c.if-not-is_digit.false in
     at.loop-i.invariant ∙ digits_more at.args.w.now c.loop-i-test.true digit
 
 pub returns : goal.returns

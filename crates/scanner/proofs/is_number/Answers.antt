@@ -14,7 +14,7 @@ pub returns-then-not-all_digits : goal.returns-then-not-all_digits
 returns-then-not-all_digits c =
     let args = c.args in
     let all_digits = c.all_digits in
-    sym (digits-wrong args.limit args.w.now (sym all_digits.ensures ∙ not-true all_digits.result c.if-not-all_digits.true))
+    sym (digits-wrong args.limit args.w.now (sym all_digits.ensures ∙ c.if-not-all_digits.true))
 
 pub bounds-w-0 : goal.bounds-w-0
 bounds-w-0 c =

@@ -16,7 +16,7 @@ returns-then-not-is_letter-is_digit c =
     let digit = c.is_digit in
     let at = c in
     let text = at.args.text.now in
-    let out = sym (ap₂ ◌||◌ letter.ensures digit.ensures) ∙ not-true (letter.result || digit.result) c.if-not-is_letter-is_digit.true in
+    let out = sym (ap₂ ◌||◌ letter.ensures digit.ensures) ∙ c.if-not-is_letter-is_digit.true in
     rw run-front (sym (at.loop-j.invariant ∙ front-stop in_run text c.loop-j-test.true out))
 
 pub loop-j-preserved : goal.loop-j-preserved
@@ -25,7 +25,7 @@ loop-j-preserved c =
     let digit = c.is_digit in
     let at = c in
     let text = at.args.text.now in
-    let still = sym (ap₂ ◌||◌ letter.ensures digit.ensures) ∙ not-false (letter.result || digit.result) c.if-not-is_letter-is_digit.false in
+    let still = sym (ap₂ ◌||◌ letter.ensures digit.ensures) ∙ c.if-not-is_letter-is_digit.false in
     at.loop-j.invariant ∙ front-more in_run text c.loop-j-test.true still
 
 pub returns : goal.returns

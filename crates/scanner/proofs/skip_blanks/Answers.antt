@@ -13,13 +13,13 @@ use Rattle.scanner.proofs.skip_blanks.Goals as goal
 pub returns-then-not-is_blank : goal.returns-then-not-is_blank
 returns-then-not-is_blank c =
     let at = c in
-    let other = sym c.is_blank.ensures ∙ not-true c.is_blank.result c.if-not-is_blank.true in
+    let other = sym c.is_blank.ensures ∙ c.if-not-is_blank.true in
     sym (at.loop-j.invariant ∙ front-stop blank at.args.text.now c.loop-j-test.true other)
 
 pub loop-j-preserved : goal.loop-j-preserved
 loop-j-preserved c =
     let at = c in
-    let same = sym c.is_blank.ensures ∙ not-false c.is_blank.result c.if-not-is_blank.false in
+    let same = sym c.is_blank.ensures ∙ c.if-not-is_blank.false in
     at.loop-j.invariant ∙ front-more blank at.args.text.now c.loop-j-test.true same
 
 pub returns : goal.returns

@@ -15,7 +15,7 @@ returns-then-not-is_headed c =
     let args = start.args in
     let pre = start.requires in
     let loop = c.loop-b in
-    let unheaded = sym c.is_headed.ensures ∙ not-true c.is_headed.result c.if-not-is_headed.true in
+    let unheaded = sym c.is_headed.ensures ∙ c.if-not-is_headed.true in
     fault-here loop.invariant 11 c.loop-b-test.true (omega arith)
     (header-wrong args.s.now loop.b pre.5 pre.3 pre.4 unheaded)
 
@@ -25,7 +25,7 @@ loop-b-preserved c =
     let args = start.args in
     let pre = start.requires in
     let loop = c.loop-b in
-    let headed = sym c.is_headed.ensures ∙ not-false c.is_headed.result c.if-not-is_headed.false in
+    let headed = sym c.is_headed.ensures ∙ c.if-not-is_headed.false in
     fault-next loop.invariant c.loop-b-test.true (header-right args.s.now loop.b pre.5 pre.3 pre.4 headed)
 
 pub returns : goal.returns

@@ -35,7 +35,7 @@ loop-k-preserved c =
     let here = cell-of in_list s args.n loop.k low ∙ sym c.cell_at-c.ensures in
     let l = cells-length in_list s 0 args.n in (
       omega arith,
-      put_next.auto.0 ∙ loop.invariant.1,
+      put_next.auto.d ∙ loop.invariant.1,
       put_next.ensures (cells_at in_list s 0 args.n) args.d.now l here loop.invariant.2,
     )
 

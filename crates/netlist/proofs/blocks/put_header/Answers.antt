@@ -11,7 +11,7 @@ returns c =
     let put16 = c.put16 in
     let put162 = c.put16-2 in
     let put163 = c.put16-3 in
-    let w : wrapping-sub-u16.result ≡ check_for args.sum = check-word (omega arith) (omega arith) wrapping-sub-u16.ensures in
+    let w : c.wrapping_sub_u16.result ≡ check_for args.sum = check-word (omega arith) (omega arith) c.wrapping_sub_u16.ensures.value in
     rw w at
-    (head-put args.h args.d.now args.i wrapping-sub-u16.result
+    (head-put args.h args.d.now args.i c.wrapping_sub_u16.result
     put16.ensures put162.ensures put163.ensures c.put16-4.ensures)

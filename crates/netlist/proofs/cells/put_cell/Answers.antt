@@ -10,13 +10,13 @@ pub put16-requires : goal.put16-requires
 put16-requires c = simp length-set (omega arith)
 
 pub put16-requires-2 : goal.put16-requires-2
-put16-requires-2 c = omega (arith, simp length-set at c.put16.auto.0)
+put16-requires-2 c = omega (arith, simp length-set at c.put16.auto.s)
 
 pub shape_of-d : goal.shape_of-d
 shape_of-d c =
     let put16 = c.put16 in
     let put162 = c.put16-2 in
-    omega (arith, simp length-set at put16.auto.0, put162.auto.0)
+    omega (arith, simp length-set at put16.auto.s, put162.auto.s)
 
 pub returns : goal.returns
 returns c =

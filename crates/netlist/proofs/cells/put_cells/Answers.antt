@@ -24,11 +24,11 @@ loop-left-preserved c =
     let at = offset args.layout in
     let s = args.s.now in
     let more : 0 < loop.left = loop-test.true in (
-      put-cell.auto.0 ∙ loop.invariant.0,
+      c.put_cell.auto.d ∙ loop.invariant.0,
       omega arith,
       omega arith,
       loop.invariant.3 ∙ put-more at s loop.from loop.left cell-at.result more cell-at.ensures loop.d loop.to
-          put-cell.ensures.0,
+          c.put_cell.ensures.put,
     )
 
 pub shape_of-d : goal.shape_of-d

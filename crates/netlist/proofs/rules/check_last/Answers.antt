@@ -34,7 +34,7 @@ returns-then-not-carries c =
     let here = cell-of at s args.n loop.k low ∙ sym c.cell_at-c.ensures in
     rw l
     (fault-here loop.invariant.1 12 low (omega arith)
-    (last-wrong (cells_at at s 0 args.n) loop.k (omega (arith, l, loop.invariant.0)) here (sym c.carries.ensures ∙ not-true c.carries.result c.if-not-carries.true)))
+    (last-wrong (cells_at at s 0 args.n) loop.k (omega (arith, l, loop.invariant.0)) here (sym c.carries.ensures ∙ c.if-not-carries.true)))
 
 pub loop-k-preserved : goal.loop-k-preserved
 loop-k-preserved c =
@@ -47,7 +47,7 @@ loop-k-preserved c =
     let here = cell-of at s args.n loop.k low ∙ sym c.cell_at-c.ensures in (
       omega (arith, loop.invariant.0),
       fault-next loop.invariant.1 low
-          (last-right (cells_at at s 0 args.n) loop.k (omega (arith, l, loop.invariant.0)) here (sym c.carries.ensures ∙ not-false c.carries.result c.if-not-carries.false)),
+          (last-right (cells_at at s 0 args.n) loop.k (omega (arith, l, loop.invariant.0)) here (sym c.carries.ensures ∙ c.if-not-carries.false)),
     )
 
 pub returns : goal.returns

@@ -30,7 +30,7 @@ returns-in-ControlAny c = let u = c.in-ControlAny.is in λ net n s. rw (u, c.is_
 
 pub returns-in-WordBelow : goal.returns-in-WordBelow
 unfolding kept word_in names
-returns-in-WordBelow c = let u = c.in-WordBelow.is in λ net n s. rw (u, c.is_IsWord.ensures, s (rw u refl)) refl
+returns-in-WordBelow c = let u = c.in-WordBelow.is in λ net n s. rw (u, c.is_word.ensures, s (rw u refl)) refl
 
 pub returns-in-WordAny : goal.returns-in-WordAny
 unfolding kept word_in names

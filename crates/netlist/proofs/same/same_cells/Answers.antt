@@ -26,7 +26,7 @@ returns-then-not-same_cell c =
     sym
     (loop.invariant
     ∙ differ-here args.file.now args.cells.now args.n loop.k at.loop-k-test.true c.cell_at-c.ensures c.cell_at-d.ensures
-    (sym c.same_cell.ensures ∙ not-true _ c.if-not-same_cell.true))
+    (sym c.same_cell.ensures ∙ c.if-not-same_cell.true))
 
 pub loop-k-preserved : goal.loop-k-preserved
 loop-k-preserved c =
@@ -35,7 +35,7 @@ loop-k-preserved c =
     let loop = at.loop-k in
     loop.invariant
     ∙ same_here args.file.now args.cells.now args.n loop.k at.loop-k-test.true c.cell_at-c.ensures c.cell_at-d.ensures
-    (sym c.same_cell.ensures ∙ not-false _ c.if-not-same_cell.false)
+    (sym c.same_cell.ensures ∙ c.if-not-same_cell.false)
 
 pub returns : goal.returns
 returns c =

@@ -1,0 +1,12 @@
+-- `ones` meets its contract: the sum so far is the ones of whole bytes. Assumes nothing.
+use native.Mathlib.Omega.{arith}
+use lib.Pow.{pow_pos}
+use Rattle.state.proofs.Counting.{Counts, counts-none, counts-byte, counts-more, mask, counts-rest, counts_all}
+use borrow.Author.Rules.{rules}
+use Rattle.state.proofs.flight.ones.Given as goal
+
+abbrev pub invariant-loop-left : goal.invariant-loop-left
+invariant-loop-left l = Counts l.s l.k l.d l.at l.left l.sum
+
+abbrev pub decreases-loop-left : goal.decreases-loop-left
+decreases-loop-left l = l.left

@@ -32,7 +32,7 @@ value-requires c =
     let all_digits = c.all_digits in
     let if2 = c.if-not-all_digits in
     let if1 = c.if-n in
-    ((size-right start.args.limit start.args.w.now if1.false).1, sym all_digits.ensures ∙ not-false all_digits.result if2.false)
+    ((size-right start.args.limit start.args.w.now if1.false).1, sym all_digits.ensures ∙ if2.false)
 
 pub returns : goal.returns
 returns c =
@@ -41,4 +41,4 @@ returns c =
     let if2 = c.if-not-all_digits in
     let if1 = c.if-n in
     rw c.value.ensures
-    (number-value args.limit args.w.now if1.false (sym all_digits.ensures ∙ not-false all_digits.result if2.false) c.if-n-w.false)
+    (number-value args.limit args.w.now if1.false (sym all_digits.ensures ∙ if2.false) c.if-n-w.false)

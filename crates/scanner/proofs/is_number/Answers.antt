@@ -1,7 +1,5 @@
 -- `words::is_number` meets its contract, test by test. Assumes nothing.
 use mathlib.Core.Path.{sym, ◌∙◌}
-use borrow.Author.Rules.{rules}
-use borrow.Author.Tests.{not-true, not-false}
 use Rattle.scanner.proofs.Numbers.{size-wrong, digits-wrong, first-wrong, size-right, number-value}
 use Rattle.scanner.proofs.is_number.Goals as goal
 

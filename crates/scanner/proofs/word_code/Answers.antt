@@ -1,6 +1,6 @@
 -- `words::word_code` meets its contract: at each test, w is none of the words before. Assumes nothing.
 use native.Mathlib.Omega.{arith}
-use Rattle.scanner.proofs.Runs.{Past, past-none, code_here, code-past, past_all}
+use Rattle.scanner.proofs.Runs.{past-none, code_here, code-past, past_all}
 use Rattle.scanner.proofs.word_code.Goals as goal
 
 pub returns-then-same : goal.returns-then-same

@@ -1,5 +1,7 @@
 // The paper's cases, run by the circuit and by the rules, and compared with what the paper expects: a line for each.
 // A row that does not hold prints "differs". Programs are bytes, four to a node: kind, delay, number.
+#![tactic(auto)]
+
 mod rows;
 mod show;
 

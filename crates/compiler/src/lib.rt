@@ -1,5 +1,7 @@
 // The compiler: from the bytes of a program to its published netlist file, in a lent buffer.
 // The cells are first put into a list of cells, six bytes each, and then into the blocks of the file. Contracts cite model/Calls.
+#![tactic(auto)]
+
 ghost use Rattle.std.specs.Prelude.{◌≡◌, ◌≤◌, length};
 ghost use Rattle.model.specs.declared.Checked.TheVariants.{Accepted};
 ghost use Rattle.model.specs.ProgramChecks.{program_with};

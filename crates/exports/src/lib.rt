@@ -1,6 +1,8 @@
 // The calls for other languages, in one archive: the answer is 48 bytes in a lent buffer (crate reply). Those on bytes are in `calls`; here are those on
 // netlists that a caller holds as a slice of cell structs. Every function on structs is thin: it takes cells out of the slice, or puts them in, and calls
 // covered functions on a cell by value.
+#![tactic(auto)]
+
 ghost use Rattle.std.specs.Prelude.{◌≡◌, ◌-◌, ◌*◌, ◌≤◌, length, take};
 ghost use Rattle.std.proofs.lemmas.List.Edits.{sets};
 ghost use Rattle.model.specs.CellSlices.{moved_from, behind, check_cells_call, write_cells_call, read_cells_call};

@@ -1,6 +1,8 @@
 // The functional compiler: from the bytes of a program to its functional netlist file, in a lent buffer.
 // The cells are first put into the end of the file's own room, one after another, and from there into its blocks: a cell's place in the file is never
 // past its place in that list. Contracts cite model/FunctionalCalls.
+#![tactic(auto)]
+
 ghost use Rattle.std.specs.Prelude.{◌≡◌, ◌++◌, ◌+◌, ◌*◌, ◌≤◌, length, drop};
 ghost use Rattle.std.proofs.lemmas.List.Edits.{sets};
 ghost use Rattle.model.specs.declared.Checked.TheVariants.{Accepted};

@@ -1,6 +1,8 @@
 // Functional runs: begin, continue, start and the full run of a netlist file whose last sixteen cells carry the last words.
 // Each is the simulator's call in a mode of its own: the rule of those cells comes before the call's other checks, and the answer shows their words.
 // The calls have no requires; their contracts are equations with model/FunctionalCalls.
+#![tactic(auto)]
+
 ghost use Rattle.std.specs.Prelude.{◌≡◌};
 ghost use Rattle.model.specs.declared.Checked.TheVariants.{Accepted};
 ghost use Rattle.model.specs.NetlistFile.{cells_of, last_words};

@@ -1,6 +1,8 @@
 // The public calls. None has a requires; each contract is one equation for the answer and one for each lent list at exit, with model/Calls.
 // A call that checks a program takes first what is given beside it: `defaults`, or what a table, a number of procedures and a
 // pulse length are loaded as.
+#![tactic(auto)]
+
 ghost use Rattle.std.specs.Prelude.{◌≡◌};
 ghost use Rattle.model.specs.TimeTables.{given_if, beside, load, defaults};
 ghost use Rattle.model.specs.Calls.{check_call, compile_call, write_call, read_call, begin_call, continue_call, start_call, run_netlist_call, run_program_call, reference_call};

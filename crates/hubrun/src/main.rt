@@ -1,4 +1,6 @@
 // The program hubrun: text has what it prints. This reads and writes, and says where nothing could be written.
+#![tactic(auto)]
+
 mod text;
 
 use libc::{STDERR_FILENO, STDIN_FILENO, STDOUT_FILENO};

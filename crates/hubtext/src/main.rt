@@ -1,4 +1,6 @@
 // The program hubtext: output has what it writes. This reads and writes, and says where nothing could be written.
+#![tactic(auto)]
+
 mod output;
 
 use libc::{STDERR_FILENO, STDIN_FILENO, STDOUT_FILENO};

@@ -1,6 +1,8 @@
 // Compiling by parts: programs that were compiled one by one, joined into the netlist file of their sequence, in a lent buffer.
 // The parts' cells are moved from their files to their new numbers; only the ors that join assignments are made anew, by the compiler's own functions.
 // The call has no requires; its contract is an equation with model/PartCalls.
+#![tactic(auto)]
+
 ghost use Rattle.std.specs.Prelude.{◌≡◌};
 ghost use Rattle.model.specs.PartCalls.{parts_in, join_call};
 

@@ -1,5 +1,7 @@
 // Words and decimal numbers of the programs' output, put into a lent buffer of bytes. Each contract tells the place after what was put in,
 // and the buffer's list at exit: `sets d i v` is d with v put in from i on; the texts themselves are model/Hubrun's.
+#![tactic(auto)]
+
 ghost use Rattle.std.specs.Prelude.{◌≡◌, [], ◌∷◌, ◌++◌, ◌+◌, ◌≤◌, length};
 ghost use Rattle.std.proofs.lemmas.List.Edits.{sets};
 ghost use Rattle.model.specs.Calls.{overwrite};

@@ -1,5 +1,7 @@
 // The public types, by value, and the step of a merge. Definitions that speak of them are in specs/.
 // Numbers and places are those of paper 01, "From the input" and "From the state", and of paper 02.
+#![tactic(auto)]
+
 ghost use Rattle.std.specs.Prelude.{◌≡◌};
 ghost use Rattle.model.specs.Circuit.{merge_step, return_step};
 

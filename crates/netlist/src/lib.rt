@@ -1,5 +1,7 @@
 // Netlist files: checked, written from cells of six bytes each, read back to them.
 // The calls that check, write and read have no requires, and their contracts are equations with model/NetlistFile and model/Calls.
+#![tactic(auto)]
+
 ghost use Rattle.std.specs.Prelude.{◌≡◌, ◌≤◌};
 ghost use Rattle.model.specs.declared.Checked.TheVariants.{Accepted};
 ghost use Rattle.model.specs.NetlistFile.{file_check, cells_at, in_list, cells_of, last_check};

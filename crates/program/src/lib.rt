@@ -1,6 +1,8 @@
 // The check of a program with what is given beside it: refusals 1 to 8, 22, 24 and 25, and the two arrays of 200 that the checks fill.
 // Contracts are equations with model/ProgramChecks; specs/Ends and Shape say what the arrays hold. Entry k of `operators` is the time of kind k.
 // In all files `|` and `&` stand between tests where both sides are cheap: they are the model's own `||` and `&&`.
+#![tactic(auto)]
+
 ghost use Rattle.std.specs.Prelude.{◌≡◌, ℕ, ◌<◌, drop};
 ghost use Rattle.model.specs.Refusals.{refuse, first};
 ghost use Rattle.model.specs.Program.{node_count, time_in};

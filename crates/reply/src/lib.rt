@@ -1,4 +1,6 @@
 // Replies: an answer as 48 bytes in a lent buffer. specs/Replies says which byte means what.
+#![tactic(auto)]
+
 ghost use Rattle.std.specs.Prelude.{◌≡◌, ◌≤◌, length};
 ghost use Rattle.reply.specs.Replies.{refused_reply, checked_reply, written_reply, answer_reply, put_word, replied};
 ghost use Rattle.model.specs.State.{up_to};

@@ -1,5 +1,7 @@
 // The reference run: a program is checked, and then run on its bytes by its own rules, with the times of a kind of circuit, within a budget.
 // Contracts are equations with model/Calls and model/FunctionalCalls; specs/Ran says what words, costs and runs in code stand for.
+#![tactic(auto)]
+
 ghost use Rattle.std.specs.Prelude.{◌≡◌, ◌≤◌};
 ghost use Rattle.model.specs.Program.{program_of};
 ghost use Rattle.model.specs.Procedures.{meaning};

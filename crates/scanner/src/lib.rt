@@ -1,5 +1,7 @@
 // The words of a text, one after another, and refusal 17. Each contract is an equation with the definition of its name in model/Text, or in
 // specs/Scanning; a word is handed on as a part of the text. `|` and `&` stand between tests where both sides are cheap.
+#![tactic(auto)]
+
 ghost use Rattle.std.specs.Prelude.{◌≡◌, true, ◌+◌, ◌≤◌, ◌<◌, length, get_or, drop};
 ghost use Rattle.model.specs.Text.{blank, digit, letter, run_length, all_digits, value_from, is_number, is_name, same, word_code, two_code, one_code, limit_after, run_token, words_of, outside};
 ghost use Rattle.scanner.specs.Scanning.{after_blanks, word_here, next_word};

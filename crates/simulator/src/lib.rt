@@ -1,5 +1,7 @@
 // The simulator: begin, continue, start and the full run of a netlist file, on the published bytes of a state, full or compact.
 // The calls have no requires. They check first and write afterwards; their contracts are equations with model/Calls.
+#![tactic(auto)]
+
 ghost use Rattle.std.specs.Prelude.{◌≡◌};
 ghost use Rattle.model.specs.Calls.{refused_answer, begin_call, continue_call, start_call, run_netlist_call};
 

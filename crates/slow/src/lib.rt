@@ -1,4 +1,6 @@
 // Gates that take their time: a second full run of a program's netlist, in lent buffers.
+#![tactic(auto)]
+
 ghost use Rattle.std.specs.Prelude.{◌≡◌, ◌*◌, ◌<◌, ◌≤◌, length};
 ghost use Rattle.model.specs.Circuit.{level};
 ghost use Rattle.model.specs.Calls.{overwrite};

@@ -1,6 +1,8 @@
 // Programs as text: refusals 17 and 18, and the program that a text stands for.
 // Contracts are equations with model/Text, model/Reader and model/TextCalls; what the lists that a machine works on show of the reader is said
 // in specs/Shown.
+#![tactic(auto)]
+
 ghost use Rattle.std.specs.Prelude.{◌≡◌, ◌*◌, [], length, nat_lt};
 ghost use Rattle.model.specs.declared.Checked.TheVariants.{Accepted};
 ghost use Rattle.model.specs.declared.Written.{Written};

@@ -1,5 +1,7 @@
 // Leaves: the operators on words, numbers of two and four bytes in slices, bytes put into a slice, and the sum of a block's words.
 // Each contract is an equation with the definition of the same name in model/Word, or with word_sum in model/NetlistFile.
+#![tactic(auto)]
+
 ghost use Rattle.std.specs.Prelude.{◌≡◌, ◌+◌, ◌*◌, ◌%◌, ◌<◌, ◌≤◌, length, take, drop};
 ghost use Rattle.std.proofs.lemmas.List.Edits.{sets};
 ghost use Rattle.model.specs.Word.{biased, operate, bit, get16, put16, get32, put32};

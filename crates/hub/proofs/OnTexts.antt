@@ -40,26 +40,26 @@ module _ (options : Options) (text lent : List ℕ) where
   pub compile-given : first (parse_checks text) ≡ Accepted → compile_text_call options text lent ≡ compile_call options (text_program text) lent
   compile-given e = compile-as-program options text lent (parse-accepts text e)
 
-module _ (options : Options) (text words : List ℕ) (n : ℕ) (forFile lent : List ℕ) where
+module _ (options : Options) (text words : List ℕ) (n : ℕ) (for_file lent : List ℕ) where
   pub run-unloaded : (r : Refusal) → given_check options ≡ Refused r
-      → run_text_call options text words n forFile lent ≡ record { answer = refused_answer r; netlist = forFile; state = lent }
+      → run_text_call options text words n for_file lent ≡ record { answer = refused_answer r; netlist = for_file; state = lent }
   unfolding run_text_call writing running
   run-unloaded r e = rw e refl
 
   pub run-refused : given_check options ≡ Accepted → (r : Refusal) → first (parse_checks text) ≡ Refused r
-      → run_text_call options text words n forFile lent ≡ record { answer = refused_answer r; netlist = forFile; state = lent }
+      → run_text_call options text words n for_file lent ≡ record { answer = refused_answer r; netlist = for_file; state = lent }
   unfolding run_text_call writing running
   run-refused a r e =
       let file = compiled_file options (text_program text) in
-      let checks = text_checks text ++ full_run_checks options (text_program text) words n forFile lent in
-      let first-is : first (run_text_checks options text words n forFile lent) ≡ Refused r =
+      let checks = text_checks text ++ full_run_checks options (text_program text) words n for_file lent in
+      let first-is : first (run_text_checks options text words n for_file lent) ≡ Refused r =
       ap (λ (c : Checked). first (c ∷ checks)) a
       ∙ parse-refuses text options r
-      (over_budget n ∷ short (length words) 544 ∷ short (length forFile) (length file) ∷ short (length lent) (state_size Full (net_of file)) ∷ []) e in
+      (over_budget n ∷ short (length words) 544 ∷ short (length for_file) (length file) ∷ short (length lent) (state_size Full (net_of file)) ∷ []) e in
       ap (λ (c : Checked).
       let s = running Full c file (full_state file words n lent) (full_count file words n lent) lent in
-      record { answer = s.answer; netlist = (writing c file (length file) 0 forFile).lent; state = s.lent })
+      record { answer = s.answer; netlist = (writing c file (length file) 0 for_file).lent; state = s.lent })
       first-is
 
-  pub run-given : first (parse_checks text) ≡ Accepted → run_text_call options text words n forFile lent ≡ run_program_call options (text_program text) words n forFile lent
-  run-given e = run-as-program options text words n forFile lent (parse-accepts text e)
+  pub run-given : first (parse_checks text) ≡ Accepted → run_text_call options text words n for_file lent ≡ run_program_call options (text_program text) words n for_file lent
+  run-given e = run-as-program options text words n for_file lent (parse-accepts text e)

@@ -118,14 +118,14 @@ module _ {v : ℕ} {P : Code} {file : List ℕ} (C : Compiled v P file) where
   long : 3 + delay_count P + or_count_from (clocks_of (one_root v P)) 0 20 + 24 + walk_count P ≤ count_of file
   long = omega (arith, counted, net-length (one_root v P), memory-is v P C.uncalled, walk-count v P C.uncalled)
 
-  pub own_is : {delays orsNumber end memory walk : ℕ} → delays ≡ kind_run 34 (cells_at in_file file 3 (count_of file - 3))
-      → orsNumber ≡ kind_run 35 (cells_at in_file file (3 + delays) (count_of file - (3 + delays))) → end ≡ trimmed (cells_at in_file file 0 (count_of file))
-      → memory ≡ 3 + delays + orsNumber → walk ≡ end - (memory + 24)
+  pub own_is : {delays ors_number end memory walk : ℕ} → delays ≡ kind_run 34 (cells_at in_file file 3 (count_of file - 3))
+      → ors_number ≡ kind_run 35 (cells_at in_file file (3 + delays) (count_of file - (3 + delays))) → end ≡ trimmed (cells_at in_file file 0 (count_of file))
+      → memory ≡ 3 + delays + ors_number → walk ≡ end - (memory + 24)
       → OwnOf v P file (record { memory = memory; delays = delays; walk = walk })
   unfolding cells_of
-  own_is {delays} {orsNumber} {end} {memory} {walk} ed eo ee em ew =
+  own_is {delays} {ors_number} {end} {memory} {walk} ed eo ee em ew =
       let d : delays ≡ delay_count P = ed ∙ ap (kind_run 34) (from 3 (omega (arith, long))) ∙ delays-in v P C.uncalled in
-      let o : orsNumber ≡ or_count_from (clocks_of (one_root v P)) 0 20 =
+      let o : ors_number ≡ or_count_from (clocks_of (one_root v P)) 0 20 =
       eo ∙ ap (λ (k : ℕ). kind_run 35 (cells_at in_file file (3 + k) (count_of file - (3 + k)))) d
       ∙ ap (kind_run 35) (from (3 + delay_count P) (omega (arith, long))) ∙ ors-in v P C.uncalled in
       let m : memory ≡ memory_at (one_root v P) = em ∙ ap₂ (λ (a b : ℕ). 3 + a + b) d o ∙ sym (memory-is v P C.uncalled) in

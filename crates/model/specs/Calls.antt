@@ -20,7 +20,7 @@ use Rattle.model.specs.Word.{pick, get16}
 use Rattle.model.specs.Refusals.{refuse_if, first}
 use Rattle.model.specs.Procedures.{meaning}
 use Rattle.model.specs.ProgramChecks.{program_with, check_of}
-use Rattle.model.specs.Rules.{imperative, Store, Run, atEnd, at_exit, done, still, run}
+use Rattle.model.specs.Rules.{imperative, Store, Run, at_end, at_exit, done, still, run}
 use Rattle.model.specs.Circuit.{high}
 use Rattle.model.specs.Numbering.{netlist, finish}
 use Rattle.model.specs.NetlistFile.{cell_bytes, cells_at, in_list, file_of, file_check, cells_of, net_of, count_of, finish_of, pulse_of, pulse_wrong, net_check, count_wrong, blocks_for}
@@ -209,24 +209,24 @@ pub record ReturnedBoth : Type 0 where
   pub state : List ℕ
 
 abbrev pub full_run_checks : Options → List ℕ → List ℕ → ℕ → List ℕ → List ℕ → List Checked
-full_run_checks options program words n forFile lent =
+full_run_checks options program words n for_file lent =
     let file = compiled_file options program in
     check_of options program
     ∷ over_budget n
     ∷ short (length words) 544
-    ∷ short (length forFile) (length file)
+    ∷ short (length for_file) (length file)
     ∷ short (length lent) (state_size Full (net_of file))
     ∷ []
 
 abbrev pub run_program_checks : Options → List ℕ → List ℕ → ℕ → List ℕ → List ℕ → List Checked
-run_program_checks options program words n forFile lent = given_check options ∷ full_run_checks options program words n forFile lent
+run_program_checks options program words n for_file lent = given_check options ∷ full_run_checks options program words n for_file lent
 
 unfoldable pub run_program_call : Options → List ℕ → List ℕ → ℕ → List ℕ → List ℕ → ReturnedBoth
-run_program_call options program words n forFile lent =
+run_program_call options program words n for_file lent =
     let file = compiled_file options program in
-    let c = first (run_program_checks options program words n forFile lent) in
+    let c = first (run_program_checks options program words n for_file lent) in
     let r = running Full c file (full_state file words n lent) (full_count file words n lent) lent in
-    record { answer = r.answer; netlist = (writing c file (length file) 0 forFile).lent; state = r.lent }
+    record { answer = r.answer; netlist = (writing c file (length file) 0 for_file).lent; state = r.lent }
 
 -- Runs by the rules --------------------------------------------------------------------------------------------------------------------
 
@@ -238,7 +238,7 @@ listed σ x (suc n) = σ x ∷ listed σ (x + 1) n
 -- what a full run counts, a reference run counts too. An open one shows the budget as its instant; the rules have no words to show of it,
 -- and so they are 0. An accepted program never comes to an exit of a loop around it (`Programs.neverLeft`), and would be open.
 unfoldable pub reference_answer : ℕ → Run → Answer
-reference_answer n (done atEnd t σ) = record { outcome = Ended; instant = t; count = t + 1; words = listed σ 0 16 }
+reference_answer n (done at_end t σ) = record { outcome = Ended; instant = t; count = t + 1; words = listed σ 0 16 }
 reference_answer n (done at_exit t σ) = record { outcome = Open; instant = n; count = n + 1; words = replicate 16 0 }
 reference_answer n still = record { outcome = Open; instant = n; count = n + 1; words = replicate 16 0 }
 

@@ -129,8 +129,8 @@ wanted (passes p) = checked Accepted
 -- what the calls that go through the circuit give, with whatever is lent; and hubrun, which has buffers of its own
 unfoldable pub OnCircuit : Case → Type 0
 OnCircuit (ends p v n t w) =
-    (forFile forState : List ℕ) → 6656 ≤ length forFile → 41480 ≤ length forState
-    → (run_program_call defaults p (start v) n forFile forState).answer ≡ end_answer t w
+    (for_file for_state : List ℕ) → 6656 ≤ length for_file → 41480 ≤ length for_state
+    → (run_program_call defaults p (start v) n for_file for_state).answer ≡ end_answer t w
 OnCircuit (refuses p k i) =
     (lent : List ℕ) → compile_call defaults p lent ≡ record { answer = Written.Refused (record { number = k; place = i }); lent = lent }
 OnCircuit (compiles p n f) =

@@ -26,9 +26,9 @@ pub record Netlist : Type 0 where
 
 -- The table ----------------------------------------------------------------------------------------------------------------------------
 
--- what a kind's number makes a cell do; kUnknown is for the numbers that are no kind
+-- what a kind's number makes a cell do; k_unknown is for the numbers that are no kind
 pub data Shape : Type 0 where
-  kConstant kComplement kOperator kStart kGround kDelay kOr kWhenTrue kWhenFalse kMerge kReturn kMemory kGated kArray kAddress kRead kLatch kUnknown : Shape
+  k_constant k_complement k_operator k_start k_ground k_delay k_or k_when_true k_when_false k_merge k_return k_memory k_gated k_array k_address k_read k_latch k_unknown : Shape
 
 -- the kinds of a shape, from the first number to the last, and their row
 pub record CellKinds : Type 0 where
@@ -46,31 +46,31 @@ line first last r = record { first = first; last = last; row = r }
 -- word wires", but for "control kind 39". "fields without a use are zero". "34 delay, d from 1 to 255". "All inputs name lower cells, except a
 -- delay's a and a memory's b, which may name any cell of the right sort." "b of 42 and a of 43 may name any cell of the right sort". "Every read is
 -- a kind 44 (a the 42, b the index)". Which array a 42's delay is goes by its place. "one new cell kind, 45, a latch ... Both inputs may name any cell
--- of the right sort." kUnknown has no numbers.
+-- of the right sort." k_unknown has no numbers.
 unfoldable pub cell_table : Shape → CellKinds
-cell_table kConstant = line 1 1 (row false Unused Value Unused)
-cell_table kComplement = line 3 3 (row false Unused WordBelow Unused)
-cell_table kOperator = line 4 9 (row false Unused WordBelow WordBelow)
-cell_table kStart = line 32 32 (row true Unused Unused Unused)
-cell_table kGround = line 33 33 (row true Unused Unused Unused)
-cell_table kDelay = line 34 34 (row true Positive ControlAny Unused)
-cell_table kOr = line 35 35 (row true Unused ControlBelow ControlBelow)
-cell_table kWhenTrue = line 36 36 (row true Unused ControlBelow WordBelow)
-cell_table kWhenFalse = line 37 37 (row true Unused ControlBelow WordBelow)
-cell_table kMerge = line 38 38 (row true Unused ControlBelow ControlBelow)
-cell_table kReturn = line 39 39 (row true Unused ControlBelow ControlBelow)
-cell_table kMemory = line 40 40 (row false Unused ControlBelow WordAny)
-cell_table kGated = line 41 41 (row false Unused ControlBelow WordBelow)
-cell_table kArray = line 42 42 (row false Value ControlBelow WordAny)
-cell_table kAddress = line 43 43 (row false Unused WordAny Unused)
-cell_table kRead = line 44 44 (row false Unused ArrayBelow WordBelow)
-cell_table kLatch = line 45 45 (row false Unused ControlAny WordAny)
-cell_table kUnknown = line 1 0 (row false Unknown Unknown Unknown)
+cell_table k_constant = line 1 1 (row false Unused Value Unused)
+cell_table k_complement = line 3 3 (row false Unused WordBelow Unused)
+cell_table k_operator = line 4 9 (row false Unused WordBelow WordBelow)
+cell_table k_start = line 32 32 (row true Unused Unused Unused)
+cell_table k_ground = line 33 33 (row true Unused Unused Unused)
+cell_table k_delay = line 34 34 (row true Positive ControlAny Unused)
+cell_table k_or = line 35 35 (row true Unused ControlBelow ControlBelow)
+cell_table k_when_true = line 36 36 (row true Unused ControlBelow WordBelow)
+cell_table k_when_false = line 37 37 (row true Unused ControlBelow WordBelow)
+cell_table k_merge = line 38 38 (row true Unused ControlBelow ControlBelow)
+cell_table k_return = line 39 39 (row true Unused ControlBelow ControlBelow)
+cell_table k_memory = line 40 40 (row false Unused ControlBelow WordAny)
+cell_table k_gated = line 41 41 (row false Unused ControlBelow WordBelow)
+cell_table k_array = line 42 42 (row false Value ControlBelow WordAny)
+cell_table k_address = line 43 43 (row false Unused WordAny Unused)
+cell_table k_read = line 44 44 (row false Unused ArrayBelow WordBelow)
+cell_table k_latch = line 45 45 (row false Unused ControlAny WordAny)
+cell_table k_unknown = line 1 0 (row false Unknown Unknown Unknown)
 
 abbrev pub shapes : List Shape
 shapes =
-    kConstant ∷ kComplement ∷ kOperator ∷ kStart ∷ kGround ∷ kDelay ∷ kOr ∷ kWhenTrue ∷ kWhenFalse ∷ kMerge ∷ kReturn ∷ kMemory
-    ∷ kGated ∷ kArray ∷ kAddress ∷ kRead ∷ kLatch ∷ []
+    k_constant ∷ k_complement ∷ k_operator ∷ k_start ∷ k_ground ∷ k_delay ∷ k_or ∷ k_when_true ∷ k_when_false ∷ k_merge ∷ k_return ∷ k_memory
+    ∷ k_gated ∷ k_array ∷ k_address ∷ k_read ∷ k_latch ∷ []
 
 abbrev pub has_kind : Shape → ℕ → Bool
 has_kind sh k = leb (cell_table sh).first k && leb k (cell_table sh).last
@@ -78,7 +78,7 @@ has_kind sh k = leb (cell_table sh).first k && leb k (cell_table sh).last
 -- the first of these shapes that has kind k
 unfoldable pub shape_in : List Shape → ℕ → Shape
 unfolding cell_table
-shape_in [] k = kUnknown
+shape_in [] k = k_unknown
 shape_in (sh ∷ rest) k = pick (has_kind sh k) sh (shape_in rest k)
 
 unfoldable pub shape : ℕ → Shape
@@ -239,24 +239,24 @@ element net words W j i (suc t) =
 -- a is 1 and b is zero." "41: word b when control a is 1, else 0." 42 and 43: "both kinds show 0". "Every read is a kind 44 (a the 42, b the
 -- index)".
 unfoldable pub equation : ℕ → Shape → Sig → ℕ → Elements → Values → ℕ → Cell → ℕ → ℕ
-equation w kConstant starts word₀ E W k c t = c.a
-equation w kComplement starts word₀ E W k c t = operate 3 (W c.a t) 0
-equation w kOperator starts word₀ E W k c t = operate c.kind (W c.a t) (W c.b t)
-equation w kStart starts word₀ E W k c t = bit (pulses w starts t)
-equation w kGround starts word₀ E W k c t = 0
-equation w kDelay starts word₀ E W k c t = bit (delayed c.delay (level W c.a) t)
-equation w kOr starts word₀ E W k c t = bit (level W c.a t || level W c.b t)
-equation w kWhenTrue starts word₀ E W k c t = bit (level W c.a t && not (is_zero (W c.b t)))
-equation w kWhenFalse starts word₀ E W k c t = bit (level W c.a t && is_zero (W c.b t))
-equation w kMerge starts word₀ E W k c t = bit (merged (merge_step (eqb w 1)) (level W c.a) (level W c.b) t)
-equation w kReturn starts word₀ E W k c t = bit (merged (return_step (eqb w 1)) (level W c.a) (level W c.b) t)
-equation w kMemory starts word₀ E W k c t = memory word₀ W k c t
-equation w kGated starts word₀ E W k c t = pick (level W c.a t) (W c.b t) 0
-equation w kArray starts word₀ E W k c t = 0
-equation w kAddress starts word₀ E W k c t = 0
-equation w kRead starts word₀ E W k c t = E c.a (index (W c.b t)) t
-equation w kLatch starts word₀ E W k c t = latch W k c t
-equation w kUnknown starts word₀ E W k c t = 0
+equation w k_constant starts word₀ E W k c t = c.a
+equation w k_complement starts word₀ E W k c t = operate 3 (W c.a t) 0
+equation w k_operator starts word₀ E W k c t = operate c.kind (W c.a t) (W c.b t)
+equation w k_start starts word₀ E W k c t = bit (pulses w starts t)
+equation w k_ground starts word₀ E W k c t = 0
+equation w k_delay starts word₀ E W k c t = bit (delayed c.delay (level W c.a) t)
+equation w k_or starts word₀ E W k c t = bit (level W c.a t || level W c.b t)
+equation w k_when_true starts word₀ E W k c t = bit (level W c.a t && not (is_zero (W c.b t)))
+equation w k_when_false starts word₀ E W k c t = bit (level W c.a t && is_zero (W c.b t))
+equation w k_merge starts word₀ E W k c t = bit (merged (merge_step (eqb w 1)) (level W c.a) (level W c.b) t)
+equation w k_return starts word₀ E W k c t = bit (merged (return_step (eqb w 1)) (level W c.a) (level W c.b) t)
+equation w k_memory starts word₀ E W k c t = memory word₀ W k c t
+equation w k_gated starts word₀ E W k c t = pick (level W c.a t) (W c.b t) 0
+equation w k_array starts word₀ E W k c t = 0
+equation w k_address starts word₀ E W k c t = 0
+equation w k_read starts word₀ E W k c t = E c.a (index (W c.b t)) t
+equation w k_latch starts word₀ E W k c t = latch W k c t
+equation w k_unknown starts word₀ E W k c t = 0
 
 -- "exactly sixteen are memories, in variable order": how many memories a list of cells has
 unfoldable pub memories : List Cell → ℕ

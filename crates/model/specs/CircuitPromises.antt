@@ -16,7 +16,7 @@ use Rattle.model.specs.Word.{pick, bit}
 use Rattle.model.specs.Program.{Program}
 use Rattle.model.specs.ProgramChecks.{program_with}
 use Rattle.model.specs.Rules.{Store}
-use Rattle.model.specs.Circuit.{cell_at, Netlist, control, memory_words, Sig, Values, level, element, array_at, Obeys, delayed, remaining_before, held_before, merges, step_of, shape, kStart, kDelay}
+use Rattle.model.specs.Circuit.{cell_at, Netlist, control, memory_words, Sig, Values, level, element, array_at, Obeys, delayed, remaining_before, held_before, merges, step_of, shape, k_start, k_delay}
 use Rattle.model.specs.Numbering.{netlist, finish}
 use Rattle.model.specs.NetlistFile.{file_check, cells_of, net_of, finish_of, pulse_of}
 use Rattle.model.specs.State.{instant_of, flight_of, flight_in, course, state_size, element_now, now_at, before_at, held_at, line_at, remaining_at, flight, begin_state, step_state, crowded, continued, sound}
@@ -35,13 +35,13 @@ pub record Published (S : Program) (file : List ℕ) (f : ℕ) : Type 0 where
 
 -- Reading what was written gives the cells, the finish and the pulse length; writing what was read gives the file.
 pub record SameFile : Type 0 where
-  pub read : (w : ℕ) (cells forFile forCells : List ℕ) (f n g : ℕ) → Bytes cells → (write_call w cells f forFile).answer ≡ Done n g →
-      let file = take n (write_call w cells f forFile).lent in
-      length cells ≤ length forCells
-      → (read_call file forCells ≡ record { answer = Done (length cells / 6) f; lent = overwrite cells forCells }) × (pulse_of file ≡ w)
-  pub written : (file forCells forFile : List ℕ) (n f : ℕ) → Bytes file → (read_call file forCells).answer ≡ Done n f →
-      let cells = take (6 * n) (read_call file forCells).lent in
-      length file ≤ length forFile → write_call (pulse_of file) cells f forFile ≡ record { answer = Done (length file) f; lent = overwrite file forFile }
+  pub read : (w : ℕ) (cells for_file for_cells : List ℕ) (f n g : ℕ) → Bytes cells → (write_call w cells f for_file).answer ≡ Done n g →
+      let file = take n (write_call w cells f for_file).lent in
+      length cells ≤ length for_cells
+      → (read_call file for_cells ≡ record { answer = Done (length cells / 6) f; lent = overwrite cells for_cells }) × (pulse_of file ≡ w)
+  pub written : (file for_cells for_file : List ℕ) (n f : ℕ) → Bytes file → (read_call file for_cells).answer ≡ Done n f →
+      let cells = take (6 * n) (read_call file for_cells).lent in
+      length file ≤ length for_file → write_call (pulse_of file) cells f for_file ≡ record { answer = Done (length file) f; lent = overwrite file for_file }
 
 -- the states of a run: begun, then stepped, with a start pulse at each of these instants
 unfoldable pub state_at : Format → Netlist → Sig → Store → List ℕ → ℕ → List ℕ
@@ -78,9 +78,9 @@ pub record Holds (F : Format) (net : Netlist) (words : Store) (W : Values) (t : 
   pub present : (k : ℕ) → k < length net.cells → now_at F s k ≡ W k t
   pub past : (k : ℕ) → k < length net.cells → before_at F s k ≡ earlier W k t
   pub held : (k : ℕ) → k < length net.cells → merges (cell_at net.cells k).kind ≡ true → held_at F s k ≡ held_of net W t k
-  pub lines : (k : ℕ) → k < length net.cells → shape (cell_at net.cells k).kind ≡ kDelay
+  pub lines : (k : ℕ) → k < length net.cells → shape (cell_at net.cells k).kind ≡ k_delay
       → (i : ℕ) → i < kept F (cell_at net.cells k).delay → line_at F net s k i ≡ line_of net W t k i
-  pub remaining : (k : ℕ) → k < length net.cells → shape (cell_at net.cells k).kind ≡ kStart → remaining_at F s k ≡ remaining_of net W t k
+  pub remaining : (k : ℕ) → k < length net.cells → shape (cell_at net.cells k).kind ≡ k_start → remaining_at F s k ≡ remaining_of net W t k
   pub elements : (k i : ℕ) → k < 4 → i < 64 → element_now F net s (64 * k + i) ≡ element net.cells words W (array_at net.cells k) i t
   pub proper : sound F net s ≡ true
 
@@ -92,15 +92,15 @@ Free d x t = (u : ℕ) → u < t → x u ≡ true → x t ≡ true → u + d ≤
 abbrev pub Apart : Format → Netlist → Values → ℕ → Type 0
 Apart Full net W t = Unit {0}
 Apart Compact net W t =
-    (k : ℕ) → k < length net.cells → shape (cell_at net.cells k).kind ≡ kDelay → (v : ℕ) → v ≤ t → Free (cell_at net.cells k).delay (level W (cell_at net.cells k).a) v
+    (k : ℕ) → k < length net.cells → shape (cell_at net.cells k).kind ≡ k_delay → (v : ℕ) → v ≤ t → Free (cell_at net.cells k).delay (level W (cell_at net.cells k).a) v
 
 -- after instant t nothing is in flight: no input of a delay of d has been high in the last d instants, no merge holds a bit, and the start has no more
 -- high instants
 pub record Idle (net : Netlist) (W : Values) (t : ℕ) : Type 0 where
-  pub delays : (k : ℕ) → k < length net.cells → shape (cell_at net.cells k).kind ≡ kDelay
+  pub delays : (k : ℕ) → k < length net.cells → shape (cell_at net.cells k).kind ≡ k_delay
       → (i : ℕ) → i < (cell_at net.cells k).delay → delayed i (level W (cell_at net.cells k).a) t ≡ false
   pub held : (k : ℕ) → k < length net.cells → merges (cell_at net.cells k).kind ≡ true → held_of net W t k ≡ record { a = false; b = false }
-  pub start : (k : ℕ) → k < length net.cells → shape (cell_at net.cells k).kind ≡ kStart → remaining_of net W t k ≡ 0
+  pub start : (k : ℕ) → k < length net.cells → shape (cell_at net.cells k).kind ≡ k_start → remaining_of net W t k ≡ 0
 
 -- "A continuing by N from instant t stops at s, the first instant after t and not above t + N where a finish is due, or at t + N if there
 -- is none"
@@ -130,7 +130,7 @@ pub record OneRun (net : Netlist) (starts : Sig) (words : Store) : Type 0 where
       → continued F net f n (state_at F net starts words lent t) ≡ course Accepted (state_at F net starts words lent t') (t' - t)
   -- 26 is met where a pulse enters a line whose pulse hasn't come out, and only there
   pub crowds : (lent : List ℕ) → state_size Compact net ≤ length lent → (t : ℕ) → Apart Compact net values t
-      → (k : ℕ) → k < length net.cells → shape (cell_at net.cells k).kind ≡ kDelay →
+      → (k : ℕ) → k < length net.cells → shape (cell_at net.cells k).kind ≡ k_delay →
       let s = state_at Compact net starts words lent t in
       (crowded Compact net s (step_state Compact net (starts (suc t)) s) k ≡ 0) ↔ Free (cell_at net.cells k).delay (level values (cell_at net.cells k).a) (suc t)
   pub controls : (k : ℕ) → k < length net.cells → control (cell_at net.cells k).kind ≡ true → (t : ℕ) → values k t ≤ 1

@@ -56,11 +56,11 @@ Fair full compact (c ∷ cs) = (ltb c.full full ≡ ltb c.compact compact) × Fa
 -- state that only these calls have made from a beginning."
 unfoldable pub SameWires : Type 0
 SameWires =
-    (options : Options) (program forFile words forFull forCompact : List ℕ) (calls : List Twice) (n f : ℕ)
-    → (compile_call options program forFile).answer ≡ Done n f →
-    let file = take n (compile_call options program forFile).lent in
-    let full = begin_call Full file words forFull in
-    let compact = begin_call Compact file words forCompact in
+    (options : Options) (program for_file words for_full for_compact : List ℕ) (calls : List Twice) (n f : ℕ)
+    → (compile_call options program for_file).answer ≡ Done n f →
+    let file = take n (compile_call options program for_file).lent in
+    let full = begin_call Full file words for_full in
+    let compact = begin_call Compact file words for_compact in
     verdict full.answer.outcome ≡ Accepted → verdict compact.answer.outcome ≡ Accepted
     → Fair (state_size Full (net_of file)) (state_size Compact (net_of file)) calls
     → AllSame (net_of file) (full ∷ replay Full file full.lent (on_full calls)) (compact ∷ replay Compact file compact.lent (on_compact calls))

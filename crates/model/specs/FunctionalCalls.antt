@@ -93,19 +93,19 @@ run_functional_call file words n lent = functionally Full file lent (run_netlist
 
 -- a full run of a program, with a list lent for its netlist and one for the state: 19 to 21, 1 to 6, 28, 22, 24, 7, 25, 8, 13, 14
 abbrev pub run_functional_program_checks : Options → List ℕ → List ℕ → ℕ → List ℕ → List ℕ → List Checked
-run_functional_program_checks options program words n forFile lent =
+run_functional_program_checks options program words n for_file lent =
     let file = functional_file program in
     options.checked
     ∷ check_functional options program
     ∷ over_budget n
     ∷ short (length words) 544
-    ∷ short (length forFile) (length file)
+    ∷ short (length for_file) (length file)
     ∷ short (length lent) (state_size Full (net_of file))
     ∷ []
 
 unfoldable pub run_functional_program_call : Options → List ℕ → List ℕ → ℕ → List ℕ → List ℕ → ReturnedBoth
-run_functional_program_call options program words n forFile lent =
+run_functional_program_call options program words n for_file lent =
     let file = functional_file program in
-    let c = first (run_functional_program_checks options program words n forFile lent) in
+    let c = first (run_functional_program_checks options program words n for_file lent) in
     let r = retold Full file c (running Full c file (full_state file words n lent) (full_count file words n lent) lent) in
-    record { answer = r.answer; netlist = (writing c file (length file) 0 forFile).lent; state = r.lent }
+    record { answer = r.answer; netlist = (writing c file (length file) 0 for_file).lent; state = r.lent }

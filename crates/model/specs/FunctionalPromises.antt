@@ -98,9 +98,9 @@ pub record FunctionalFile (P : Stmt) (file : List ℕ) (f : ℕ) : Type 0 where
 
 -- full runs, on a full state: "A full run answers as its last call does, its calls' counts added", and as a reference run does; the words of one that is open
 -- are those that its cells show
-pub record FunctionalRuns (P : Stmt) (σ : Store) (file forFile : List ℕ) (begun : Returned Answer) (programRun : ℕ → ReturnedBoth) (whole : ℕ → Returned Answer)
+pub record FunctionalRuns (P : Stmt) (σ : Store) (file for_file : List ℕ) (begun : Returned Answer) (program_run : ℕ → ReturnedBoth) (whole : ℕ → Returned Answer)
     : Type 0 where
-  pub alike : (n : ℕ) → n ≤ 1000000 → programRun n ≡ record { answer = (whole n).answer; netlist = overwrite file forFile; state = (whole n).lent }
+  pub alike : (n : ℕ) → n ≤ 1000000 → program_run n ≡ record { answer = (whole n).answer; netlist = overwrite file for_file; state = (whole n).lent }
   pub runs : (n : ℕ) → n ≤ 1000000 → whole n ≡ whole_of begun.answer.outcome begun (continue_functional_call Full file n begun.lent)
   pub ends : (n t : ℕ) (σ' : Store) → n ≤ 1000000 → Ends functional P σ t σ' → t ≤ n → (whole n).answer ≡ ended_answer t σ'
   pub goes_on : (n : ℕ) → n ≤ 1000000 → ((t : ℕ) (σ' : Store) → Ends functional P σ t σ' → t ≤ n → ⊥) → seen_in (whole n).answer ≡ seen Open n (n + 1)
@@ -139,28 +139,28 @@ pub record FunctionalRefusals : Type 0 where
       let c = verdict (run_functional_call file words n lent).answer.outcome in
       Refuses (file_numbers ∷ just 12 ∷ file_numbers ∷ just 13 ∷ just 14 ∷ just 14 ∷ []) (last_checks file ++ run_netlist_checks file words n lent) c
       × Leaves c lent (run_functional_call file words n lent).lent
-  pub program_runs : (G : Given) (program words : List ℕ) (n : ℕ) (forFile lent : List ℕ) →
-      let r = run_functional_program_call (load G) program words n forFile lent in
+  pub program_runs : (G : Given) (program words : List ℕ) (n : ℕ) (for_file lent : List ℕ) →
+      let r = run_functional_program_call (load G) program words n for_file lent in
       let c = verdict r.answer.outcome in
-      Refuses (table_numbers ∷ functional_numbers ∷ just 13 ∷ just 14 ∷ just 14 ∷ just 14 ∷ []) (run_functional_program_checks (load G) program words n forFile lent) c
-      × Leaves c forFile r.netlist × Leaves c lent r.state
+      Refuses (table_numbers ∷ functional_numbers ∷ just 13 ∷ just 14 ∷ just 14 ∷ just 14 ∷ []) (run_functional_program_checks (load G) program words n for_file lent) c
+      × Leaves c for_file r.netlist × Leaves c lent r.state
 
 pub record Functional : Type 0 where
-  pub compiled : (options : Options) (program forFile : List ℕ) (n f : ℕ) → Bytes program → (compile_functional_call options program forFile).answer ≡ Done n f
-      → FunctionalFile (statement_of program) (take n (compile_functional_call options program forFile).lent) f
-  pub lists : (F : Format) (options : Options) (program forFile words forState : List ℕ) (calls : List Call) (n f : ℕ)
-      → (compile_functional_call options program forFile).answer ≡ Done n f →
-      let file = take n (compile_functional_call options program forFile).lent in
-      let begun = begin_functional_call F file words forState in
+  pub compiled : (options : Options) (program for_file : List ℕ) (n f : ℕ) → Bytes program → (compile_functional_call options program for_file).answer ≡ Done n f
+      → FunctionalFile (statement_of program) (take n (compile_functional_call options program for_file).lent) f
+  pub lists : (F : Format) (options : Options) (program for_file words for_state : List ℕ) (calls : List Call) (n f : ℕ)
+      → (compile_functional_call options program for_file).answer ≡ Done n f →
+      let file = take n (compile_functional_call options program for_file).lent in
+      let begun = begin_functional_call F file words for_state in
       Bytes file → Bytes words → verdict begun.answer.outcome ≡ Accepted
       → FunctionalKeeps F (statement_of program) (word_at words) file begun calls
-  pub full_runs : (options : Options) (program forFile words forState : List ℕ) (n f : ℕ)
-      → (compile_functional_call options program forFile).answer ≡ Done n f →
-      let file = take n (compile_functional_call options program forFile).lent in
-      let begun = begin_functional_call Full file words forState in
+  pub full_runs : (options : Options) (program for_file words for_state : List ℕ) (n f : ℕ)
+      → (compile_functional_call options program for_file).answer ≡ Done n f →
+      let file = take n (compile_functional_call options program for_file).lent in
+      let begun = begin_functional_call Full file words for_state in
       Bytes file → Bytes words → verdict begun.answer.outcome ≡ Accepted
-      → FunctionalRuns (statement_of program) (word_at words) file forFile begun
-      (λ k. run_functional_program_call options program words k forFile forState) (λ k. run_functional_call file words k forState)
+      → FunctionalRuns (statement_of program) (word_at words) file for_file begun
+      (λ k. run_functional_program_call options program words k for_file for_state) (λ k. run_functional_call file words k for_state)
   -- the reference run answers an end within its budget, and no other
   pub ends : (options : Options) (program words : List ℕ) (n t : ℕ) (σ' : Store) → verdict (reference_functional_call options program words n).outcome ≡ Accepted
       → Ends functional (statement_of program) (word_at words) t σ' → t ≤ n → reference_functional_call options program words n ≡ ended_answer t σ'

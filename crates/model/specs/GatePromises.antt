@@ -39,7 +39,7 @@ pub record Gates : Type 0 where
       let S = program_of 1 k program in
       (W U : Values) → Obeys (circuit_of S) first_start words W → ObeysSlowly (time_in (times_of T)) S words U → Agrees S words W U
   -- "It answers as a full run does": as one with pulses of 1, whatever pulse length is given
-  pub answers : (T : TimeTable) (k w : ℕ) (program words : List ℕ) (n : ℕ) (forFile forState forValues forWork : List ℕ) → Bytes program →
-      let full = (run_program_call (load (beside T k 1)) program words n forFile forState).answer in
-      let slow = (slow_run_call (load (beside T k w)) program words n forValues forWork).answer in
+  pub answers : (T : TimeTable) (k w : ℕ) (program words : List ℕ) (n : ℕ) (for_file for_state for_values for_work : List ℕ) → Bytes program →
+      let full = (run_program_call (load (beside T k 1)) program words n for_file for_state).answer in
+      let slow = (slow_run_call (load (beside T k w)) program words n for_values for_work).answer in
       verdict full.outcome ≡ Accepted → verdict slow.outcome ≡ Accepted → slow ≡ full

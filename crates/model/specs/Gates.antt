@@ -12,7 +12,7 @@ use Rattle.model.specs.Word.{pick, operate, index, bytes16}
 use Rattle.model.specs.Refusals.{first}
 use Rattle.model.specs.Program.{Program, time_in}
 use Rattle.model.specs.ProgramChecks.{program_with, check_of}
-use Rattle.model.specs.Circuit.{cell_at, Sig, Values, Elements, level, element, memory_words, start_word, Shape, shape, equation, kConstant, kComplement, kOperator, kStart, kGround, kDelay, kOr, kWhenTrue, kWhenFalse, kMerge, kReturn, kMemory, kGated, kArray, kAddress, kRead, kLatch, kUnknown}
+use Rattle.model.specs.Circuit.{cell_at, Sig, Values, Elements, level, element, memory_words, start_word, Shape, shape, equation, k_constant, k_complement, k_operator, k_start, k_ground, k_delay, k_or, k_when_true, k_when_false, k_merge, k_return, k_memory, k_gated, k_array, k_address, k_read, k_latch, k_unknown}
 use Rattle.model.specs.Numbering.{netlist, finish, data_at}
 use Rattle.model.specs.Calls.{overwrite, short, refused_answer, over_budget, word_at}
 
@@ -26,24 +26,24 @@ past d w t = pick (leb d t) (w (t - d)) 0
 -- which is c, shows at instant t, with pulses of 1; τ tells the operator time of each kind of node, and a kind 44 is a node of kind 10. The others are as
 -- in the ideal circuit, a constant among them, which has no inputs: "Control cells, kind 41 ... stay instant."
 unfoldable pub gate : (ℕ → ℕ) → Shape → Sig → ℕ → Elements → Values → ℕ → Cell → ℕ → ℕ
-gate τ kConstant starts word₀ E W k c t = equation 1 kConstant starts word₀ E W k c t
-gate τ kComplement starts word₀ E W k c t = operate 3 (past (τ 3) (W c.a) t) 0
-gate τ kOperator starts word₀ E W k c t = operate c.kind (past (τ c.kind) (W c.a) t) (past (τ c.kind) (W c.b) t)
-gate τ kStart starts word₀ E W k c t = equation 1 kStart starts word₀ E W k c t
-gate τ kGround starts word₀ E W k c t = equation 1 kGround starts word₀ E W k c t
-gate τ kDelay starts word₀ E W k c t = equation 1 kDelay starts word₀ E W k c t
-gate τ kOr starts word₀ E W k c t = equation 1 kOr starts word₀ E W k c t
-gate τ kWhenTrue starts word₀ E W k c t = equation 1 kWhenTrue starts word₀ E W k c t
-gate τ kWhenFalse starts word₀ E W k c t = equation 1 kWhenFalse starts word₀ E W k c t
-gate τ kMerge starts word₀ E W k c t = equation 1 kMerge starts word₀ E W k c t
-gate τ kReturn starts word₀ E W k c t = equation 1 kReturn starts word₀ E W k c t
-gate τ kMemory starts word₀ E W k c t = equation 1 kMemory starts word₀ E W k c t
-gate τ kGated starts word₀ E W k c t = equation 1 kGated starts word₀ E W k c t
-gate τ kArray starts word₀ E W k c t = equation 1 kArray starts word₀ E W k c t
-gate τ kAddress starts word₀ E W k c t = equation 1 kAddress starts word₀ E W k c t
-gate τ kRead starts word₀ E W k c t = past (τ 10) (λ u. E c.a (index (W c.b u)) u) t
-gate τ kLatch starts word₀ E W k c t = equation 1 kLatch starts word₀ E W k c t
-gate τ kUnknown starts word₀ E W k c t = equation 1 kUnknown starts word₀ E W k c t
+gate τ k_constant starts word₀ E W k c t = equation 1 k_constant starts word₀ E W k c t
+gate τ k_complement starts word₀ E W k c t = operate 3 (past (τ 3) (W c.a) t) 0
+gate τ k_operator starts word₀ E W k c t = operate c.kind (past (τ c.kind) (W c.a) t) (past (τ c.kind) (W c.b) t)
+gate τ k_start starts word₀ E W k c t = equation 1 k_start starts word₀ E W k c t
+gate τ k_ground starts word₀ E W k c t = equation 1 k_ground starts word₀ E W k c t
+gate τ k_delay starts word₀ E W k c t = equation 1 k_delay starts word₀ E W k c t
+gate τ k_or starts word₀ E W k c t = equation 1 k_or starts word₀ E W k c t
+gate τ k_when_true starts word₀ E W k c t = equation 1 k_when_true starts word₀ E W k c t
+gate τ k_when_false starts word₀ E W k c t = equation 1 k_when_false starts word₀ E W k c t
+gate τ k_merge starts word₀ E W k c t = equation 1 k_merge starts word₀ E W k c t
+gate τ k_return starts word₀ E W k c t = equation 1 k_return starts word₀ E W k c t
+gate τ k_memory starts word₀ E W k c t = equation 1 k_memory starts word₀ E W k c t
+gate τ k_gated starts word₀ E W k c t = equation 1 k_gated starts word₀ E W k c t
+gate τ k_array starts word₀ E W k c t = equation 1 k_array starts word₀ E W k c t
+gate τ k_address starts word₀ E W k c t = equation 1 k_address starts word₀ E W k c t
+gate τ k_read starts word₀ E W k c t = past (τ 10) (λ u. E c.a (index (W c.b u)) u) t
+gate τ k_latch starts word₀ E W k c t = equation 1 k_latch starts word₀ E W k c t
+gate τ k_unknown starts word₀ E W k c t = equation 1 k_unknown starts word₀ E W k c t
 
 -- a full run has one start pulse
 abbrev pub first_start : Sig
@@ -126,14 +126,14 @@ slow_program options program = program_with (with_pulse 1 options) program
 
 -- a slow run of a program: 19 to 21, 1 to 8, 22, 24 and 25, 13, 14
 abbrev pub slow_run_checks : Options → List ℕ → List ℕ → ℕ → List ℕ → List ℕ → List Checked
-slow_run_checks options program words n forValues forWork =
+slow_run_checks options program words n for_values for_work =
     let cells = length (netlist (slow_program options program)) in
     options.checked
     ∷ check_of (with_pulse 1 options) program
     ∷ over_budget n
     ∷ short (length words) 544
-    ∷ short (length forValues) (2 * cells)
-    ∷ short (length forWork) (slow_size cells)
+    ∷ short (length for_values) (2 * cells)
+    ∷ short (length for_work) (slow_size cells)
     ∷ []
 
 -- the answer, and both lists at exit: what was worked in is left 0
@@ -143,18 +143,18 @@ pub record ReturnedSlow : Type 0 where
   pub work : List ℕ
 
 unfoldable pub slow_running : Checked → Options → List ℕ → List ℕ → ℕ → List ℕ → List ℕ → ReturnedSlow
-slow_running Accepted options program words n forValues forWork =
+slow_running Accepted options program words n for_values for_work =
     let S = slow_program options program in
     let cells = length (netlist S) in
     let W = slowly (time_in options.times) S (word_at words) in
     let t = end_at (level W (finish S)) 0 n in
     record {
       answer = slow_answer (netlist S) (finish S) W t;
-      values = overwrite (value_bytes (λ k. W k t) 0 cells) forValues;
-      work = overwrite (replicate (slow_size cells) 0) forWork;
+      values = overwrite (value_bytes (λ k. W k t) 0 cells) for_values;
+      work = overwrite (replicate (slow_size cells) 0) for_work;
     }
-slow_running (Checked.Refused r) options program words n forValues forWork = record { answer = refused_answer r; values = forValues; work = forWork }
+slow_running (Checked.Refused r) options program words n for_values for_work = record { answer = refused_answer r; values = for_values; work = for_work }
 
 unfoldable pub slow_run_call : Options → List ℕ → List ℕ → ℕ → List ℕ → List ℕ → ReturnedSlow
-slow_run_call options program words n forValues forWork =
-    slow_running (first (slow_run_checks options program words n forValues forWork)) options program words n forValues forWork
+slow_run_call options program words n for_values for_work =
+    slow_running (first (slow_run_checks options program words n for_values for_work)) options program words n for_values for_work

@@ -70,14 +70,14 @@ pub record Joins : Type 0 where
   -- so demands 2 and 3 hold of what was joined
   pub published : (options : Options) (ps : List Part) (lent : List ℕ) (n f : ℕ) → EachPart (λ p. Bytes p.program) ps
       → (join_call options ps lent).answer ≡ Done n f → Published (joined_program ps) (take n (join_call options ps lent).lent) f
-  pub lists : (F : Format) (options : Options) (ps : List Part) (forFile words forState : List ℕ) (calls : List Call) (n f : ℕ)
-      → (join_call options ps forFile).answer ≡ Done n f →
-      let file = take n (join_call options ps forFile).lent in
-      let begun = begin_call F file words forState in
+  pub lists : (F : Format) (options : Options) (ps : List Part) (for_file words for_state : List ℕ) (calls : List Call) (n f : ℕ)
+      → (join_call options ps for_file).answer ≡ Done n f →
+      let file = take n (join_call options ps for_file).lent in
+      let begun = begin_call F file words for_state in
       verdict begun.answer.outcome ≡ Accepted → Keeps F (part_at ps 0).pulse (meaning (joined_program ps)) (word_at words) file begun calls
-  pub full_runs : (options : Options) (ps : List Part) (forFile words forState : List ℕ) (n f : ℕ) → (join_call options ps forFile).answer ≡ Done n f →
-      let file = take n (join_call options ps forFile).lent in
-      let begun = begin_call Full file words forState in
+  pub full_runs : (options : Options) (ps : List Part) (for_file words for_state : List ℕ) (n f : ℕ) → (join_call options ps for_file).answer ≡ Done n f →
+      let file = take n (join_call options ps for_file).lent in
+      let begun = begin_call Full file words for_state in
       verdict begun.answer.outcome ≡ Accepted
-      → FullRuns file forFile begun (λ k. run_program_call (beside_whole options ps) (whole_program ps) words k forFile forState)
-      (λ k. run_netlist_call file words k forState)
+      → FullRuns file for_file begun (λ k. run_program_call (beside_whole options ps) (whole_program ps) words k for_file for_state)
+      (λ k. run_netlist_call file words k for_state)

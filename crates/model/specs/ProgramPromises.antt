@@ -45,7 +45,7 @@ pub record Programs : Type 1 where
   pub never_left : (options : Options) (program : List ℕ) → check_call options program ≡ Accepted
       → (σ : Store) (t : ℕ) (σ' : Store) → Leaves (imperative options.pulse) (meaning (program_with options program)) σ t σ' → ⊥
   -- a full run that is not refused answers what the reference run does; the words of one that is open are the memories'
-  pub agree : (options : Options) (program words : List ℕ) (n : ℕ) (forFile lent : List ℕ) → Bytes program →
-      let full = (run_program_call options program words n forFile lent).answer in
+  pub agree : (options : Options) (program words : List ℕ) (n : ℕ) (for_file lent : List ℕ) → Bytes program →
+      let full = (run_program_call options program words n for_file lent).answer in
       let reference = reference_call options program words n in
       verdict full.outcome ≡ Accepted → (seen_in full ≡ seen_in reference) × (full.outcome ≡ Ended → full ≡ reference)

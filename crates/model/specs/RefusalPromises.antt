@@ -146,17 +146,17 @@ pub record Demand1 : Type 0 where
       let c = verdict (run_netlist_call file words n lent).answer.outcome in
       Refuses (file_numbers ∷ just 13 ∷ just 14 ∷ just 14 ∷ []) (run_netlist_checks file words n lent) c
       × Leaves c lent (run_netlist_call file words n lent).lent
-  pub program_runs : (G : Given) (program words : List ℕ) (n : ℕ) (forFile lent : List ℕ) →
-      let r = run_program_call (load G) program words n forFile lent in
+  pub program_runs : (G : Given) (program words : List ℕ) (n : ℕ) (for_file lent : List ℕ) →
+      let r = run_program_call (load G) program words n for_file lent in
       let c = verdict r.answer.outcome in
-      Refuses (given_numbers ∷ program_numbers ∷ just 13 ∷ just 14 ∷ just 14 ∷ just 14 ∷ []) (run_program_checks (load G) program words n forFile lent) c
-      × Leaves c forFile r.netlist × Leaves c lent r.state
+      Refuses (given_numbers ∷ program_numbers ∷ just 13 ∷ just 14 ∷ just 14 ∷ just 14 ∷ []) (run_program_checks (load G) program words n for_file lent) c
+      × Leaves c for_file r.netlist × Leaves c lent r.state
   -- no pulse length is given there: of G it is not looked at
-  pub slow_runs : (G : Given) (program words : List ℕ) (n : ℕ) (forValues forWork : List ℕ) →
-      let r = slow_run_call (load G) program words n forValues forWork in
+  pub slow_runs : (G : Given) (program words : List ℕ) (n : ℕ) (for_values for_work : List ℕ) →
+      let r = slow_run_call (load G) program words n for_values for_work in
       let c = verdict r.answer.outcome in
-      Refuses (table_numbers ∷ program_numbers ∷ just 13 ∷ just 14 ∷ just 14 ∷ just 14 ∷ []) (slow_run_checks (load G) program words n forValues forWork) c
-      × Leaves c forValues r.values × Leaves c forWork r.work
+      Refuses (table_numbers ∷ program_numbers ∷ just 13 ∷ just 14 ∷ just 14 ∷ just 14 ∷ []) (slow_run_checks (load G) program words n for_values for_work) c
+      × Leaves c for_values r.values × Leaves c for_work r.work
   pub references : (G : Given) (program words : List ℕ) (n : ℕ)
       → Refuses (given_numbers ∷ program_numbers ∷ just 13 ∷ just 14 ∷ []) (reference_checks (load G) program words n)
       (verdict (reference_call (load G) program words n).outcome)

@@ -150,7 +150,7 @@ unfoldable mutual
 
 -- how a run is done: it ended, or it came to an exit of the loop around it
 pub data Way : Type 0 where
-  atEnd at_exit : Way
+  at_end at_exit : Way
 
 -- A run within a budget of k instants: it is done after t instants with these words, or it is still going.
 pub data Run : Type 0 where
@@ -158,7 +158,7 @@ pub data Run : Type 0 where
   still : Run
 
 abbrev pub ended : ℕ → Store → Run
-ended t σ = done atEnd t σ
+ended t σ = done at_end t σ
 
 abbrev pub left : ℕ → Store → Run
 left t σ = done at_exit t σ
@@ -174,15 +174,15 @@ wait d k c = elim (leb d k) [ true ↦ after d (c (k - d)) | false ↦ still ]
 
 -- r, and where it ended, c from there
 unfoldable pub chain : Run → (ℕ → Store → Run) → Run
-chain (done atEnd t σ) c = after t (c t σ)
+chain (done at_end t σ) c = after t (c t σ)
 chain (done at_exit t σ) c = left t σ
 chain still c = still
 
 -- "the time is the larger one"; "ends only if both parts do"; the words joined by j
 unfoldable pub both : (Store → Store → Store) → Run → Run → Run
-both j (done atEnd t σ) (done atEnd t' σ') = ended (max t t') (j σ σ')
-both j (done atEnd t σ) (done at_exit t' σ') = still
-both j (done atEnd t σ) still = still
+both j (done at_end t σ) (done at_end t' σ') = ended (max t t') (j σ σ')
+both j (done at_end t σ) (done at_exit t' σ') = still
+both j (done at_end t σ) still = still
 both j (done at_exit t σ) r = still
 both j still r = still
 
@@ -234,7 +234,7 @@ run κ k (call _ none) σ = elim none [ ]
 
 -- whether at t, in a run within t instants, one of the w instants from its end on has come
 unfoldable pub shows_at : ℕ → ℕ → Run → Bool
-shows_at w t (done atEnd t' σ) = ltb t (t' + w)
+shows_at w t (done at_end t' σ) = ltb t (t' + w)
 shows_at w t (done at_exit t' σ) = false
 shows_at w t still = false
 

@@ -15,7 +15,7 @@ use Rattle.model.specs.Word.{element_word}
 use Rattle.model.specs.Program.{Stmt, gap}
 use Rattle.model.specs.ProgramChecks.{program_with}
 use Rattle.model.specs.Procedures.{meaning}
-use Rattle.model.specs.Rules.{imperative, Store, Ends, Run, atEnd, at_exit, done, still, ended, shows_at}
+use Rattle.model.specs.Rules.{imperative, Store, Ends, Run, at_end, at_exit, done, still, ended, shows_at}
 use Rattle.model.specs.Circuit.{memory_words, Sig, Values, level, element, array_at, Obeys}
 use Rattle.model.specs.NetlistFile.{cells_of, net_of, finish_of}
 use Rattle.model.specs.State.{flight_of, state_size, element_now, words_in}
@@ -114,7 +114,7 @@ after_continuing w rules st n =
 -- program "ends as a new run from the present words would, counted from that pulse", or as one from the words that `anew` tells. No accepted program
 -- comes to an exit of a loop around it.
 unfoldable pub pulsed : ℕ → Runs → Stand → Run → Next
-pulsed w rules st (done atEnd t σ) =
+pulsed w rules st (done at_end t σ) =
     let s = suc st.now in
     let fresh = stand s (rules.anew σ) s in
     elim (ltb 1 w && due_at w rules st st.now) [
@@ -233,22 +233,22 @@ pub record Keeps (F : Format) (w : ℕ) (P : Stmt) (σ : Store) (file : List ℕ
   pub unchanged : Unchanged begun.lent (replay F file begun.lent calls)
 
 -- the full runs of budget n of a program and of its netlist, which have this list for their state: what they answer, and what they leave in each buffer
-pub record FullRuns (file forFile : List ℕ) (begun : Returned Answer) (programRun : ℕ → ReturnedBoth) (netlistRun : ℕ → Returned Answer) : Type 0 where
+pub record FullRuns (file for_file : List ℕ) (begun : Returned Answer) (program_run : ℕ → ReturnedBoth) (netlist_run : ℕ → Returned Answer) : Type 0 where
   pub program_runs : (n : ℕ) → n ≤ 1000000 →
       let whole = whole_of begun.answer.outcome begun (continue_call Full file n begun.lent) in
-      programRun n ≡ record { answer = whole.answer; netlist = overwrite file forFile; state = whole.lent }
-  pub netlist_runs : (n : ℕ) → n ≤ 1000000 → netlistRun n ≡ whole_of begun.answer.outcome begun (continue_call Full file n begun.lent)
+      program_run n ≡ record { answer = whole.answer; netlist = overwrite file for_file; state = whole.lent }
+  pub netlist_runs : (n : ℕ) → n ≤ 1000000 → netlist_run n ≡ whole_of begun.answer.outcome begun (continue_call Full file n begun.lent)
 
 -- "A program is accepted when compiling gives its netlist. The list starts from the state that an unrefused beginning wrote for that netlist
 -- and the start words", a full or a compact one. "Under every table that loads, finish and last words are the program's."
 pub record Demand3 : Type 0 where
-  pub lists : (F : Format) (options : Options) (program forFile words forState : List ℕ) (calls : List Call) (n f : ℕ)
-      → (compile_call options program forFile).answer ≡ Done n f →
-      let file = take n (compile_call options program forFile).lent in
-      let begun = begin_call F file words forState in
+  pub lists : (F : Format) (options : Options) (program for_file words for_state : List ℕ) (calls : List Call) (n f : ℕ)
+      → (compile_call options program for_file).answer ≡ Done n f →
+      let file = take n (compile_call options program for_file).lent in
+      let begun = begin_call F file words for_state in
       verdict begun.answer.outcome ≡ Accepted → Keeps F options.pulse (meaning (program_with options program)) (word_at words) file begun calls
-  pub full_runs : (options : Options) (program forFile words forState : List ℕ) (n f : ℕ) → (compile_call options program forFile).answer ≡ Done n f →
-      let file = take n (compile_call options program forFile).lent in
-      let begun = begin_call Full file words forState in
+  pub full_runs : (options : Options) (program for_file words for_state : List ℕ) (n f : ℕ) → (compile_call options program for_file).answer ≡ Done n f →
+      let file = take n (compile_call options program for_file).lent in
+      let begun = begin_call Full file words for_state in
       verdict begun.answer.outcome ≡ Accepted
-      → FullRuns file forFile begun (λ k. run_program_call options program words k forFile forState) (λ k. run_netlist_call file words k forState)
+      → FullRuns file for_file begun (λ k. run_program_call options program words k for_file for_state) (λ k. run_netlist_call file words k for_state)

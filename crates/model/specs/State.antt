@@ -10,7 +10,7 @@ use Rattle.model.specs.declared.Checked.{Checked}
 use Rattle.model.specs.declared.Checked.TheVariants.{Accepted, Refused}
 use Rattle.model.specs.Refusals.{first_fault, fault_if}
 use Rattle.model.specs.Word.{pick, bit, is_zero, operate, element_of, get16, put16, get32, put32, bytes16}
-use Rattle.model.specs.Circuit.{cell_at, Netlist, control, high, remaining_step, merge_step, return_step, merges, memory_words, start_word, Shape, shape, kConstant, kComplement, kOperator, kStart, kGround, kDelay, kOr, kWhenTrue, kWhenFalse, kMerge, kReturn, kMemory, kGated, kArray, kAddress, kRead, kLatch, kUnknown}
+use Rattle.model.specs.Circuit.{cell_at, Netlist, control, high, remaining_step, merge_step, return_step, merges, memory_words, start_word, Shape, shape, k_constant, k_complement, k_operator, k_start, k_ground, k_delay, k_or, k_when_true, k_when_false, k_merge, k_return, k_memory, k_gated, k_array, k_address, k_read, k_latch, k_unknown}
 use Rattle.model.specs.NetlistFile.{all_zero}
 
 -- For either format --------------------------------------------------------------------------------------------------------------------
@@ -143,24 +143,24 @@ module _ (F : Format) where
   -- What cell k, which is c, shows after instant 0; starts tells whether a start pulse is given. In s, lower cells have their values now already, and
   -- the arrays of lower cells their words; all cells have their values an instant ago, and held bits and lines are still those of an instant ago.
   unfoldable pub next_value : Shape → Bool → Netlist → List ℕ → ℕ → Cell → ℕ
-  next_value kConstant starts net s k c = c.a
-  next_value kComplement starts net s k c = operate 3 (now_at s c.a) 0
-  next_value kOperator starts net s k c = operate c.kind (now_at s c.a) (now_at s c.b)
-  next_value kStart starts net s k c = bit (starts || not (is_zero (remaining_at s k)))
-  next_value kGround starts net s k c = 0
-  next_value kDelay starts net s k c = line_bit s k c.delay (c.delay - 1)
-  next_value kOr starts net s k c = bit (high (now_at s c.a) || high (now_at s c.b))
-  next_value kWhenTrue starts net s k c = bit (high (now_at s c.a) && not (is_zero (now_at s c.b)))
-  next_value kWhenFalse starts net s k c = bit (high (now_at s c.a) && is_zero (now_at s c.b))
-  next_value kMerge starts net s k c = bit (merge_step (eqb net.pulse 1) (high (before_at s k)) (held_at s k) (high (now_at s c.a)) (high (now_at s c.b))).out
-  next_value kReturn starts net s k c = bit (return_step (eqb net.pulse 1) (high (before_at s k)) (held_at s k) (high (now_at s c.a)) (high (now_at s c.b))).out
-  next_value kMemory starts net s k c = pick (fallen s c.a) (before_at s c.b) (before_at s k)
-  next_value kGated starts net s k c = pick (high (now_at s c.a)) (now_at s c.b) 0
-  next_value kArray starts net s k c = 0
-  next_value kAddress starts net s k c = 0
-  next_value kRead starts net s k c = element_now net s (element_of (cell_at net.cells c.a).delay (now_at s c.b))
-  next_value kLatch starts net s k c = pick (high (before_at s c.a)) (before_at s c.b) (before_at s k)
-  next_value kUnknown starts net s k c = 0
+  next_value k_constant starts net s k c = c.a
+  next_value k_complement starts net s k c = operate 3 (now_at s c.a) 0
+  next_value k_operator starts net s k c = operate c.kind (now_at s c.a) (now_at s c.b)
+  next_value k_start starts net s k c = bit (starts || not (is_zero (remaining_at s k)))
+  next_value k_ground starts net s k c = 0
+  next_value k_delay starts net s k c = line_bit s k c.delay (c.delay - 1)
+  next_value k_or starts net s k c = bit (high (now_at s c.a) || high (now_at s c.b))
+  next_value k_when_true starts net s k c = bit (high (now_at s c.a) && not (is_zero (now_at s c.b)))
+  next_value k_when_false starts net s k c = bit (high (now_at s c.a) && is_zero (now_at s c.b))
+  next_value k_merge starts net s k c = bit (merge_step (eqb net.pulse 1) (high (before_at s k)) (held_at s k) (high (now_at s c.a)) (high (now_at s c.b))).out
+  next_value k_return starts net s k c = bit (return_step (eqb net.pulse 1) (high (before_at s k)) (held_at s k) (high (now_at s c.a)) (high (now_at s c.b))).out
+  next_value k_memory starts net s k c = pick (fallen s c.a) (before_at s c.b) (before_at s k)
+  next_value k_gated starts net s k c = pick (high (now_at s c.a)) (now_at s c.b) 0
+  next_value k_array starts net s k c = 0
+  next_value k_address starts net s k c = 0
+  next_value k_read starts net s k c = element_now net s (element_of (cell_at net.cells c.a).delay (now_at s c.b))
+  next_value k_latch starts net s k c = pick (high (before_at s c.a)) (before_at s c.b) (before_at s k)
+  next_value k_unknown starts net s k c = 0
 
   abbrev pub value : Netlist → Bool → List ℕ → ℕ → ℕ
   value net starts s k = next_value (shape (cell_at net.cells k).kind) starts net s k (cell_at net.cells k)
@@ -190,24 +190,24 @@ module _ (F : Format) where
 
   -- a delay takes its input in, a merge holds, the start has an instant less to be high; with pulses of w
   unfoldable pub settle : ℕ → Shape → List ℕ → ℕ → Cell → List ℕ
-  settle w kConstant s k c = s
-  settle w kComplement s k c = s
-  settle w kOperator s k c = s
-  settle w kStart s k c = set s (remaining_byte k) (remaining_step w (remaining_at s k) (high (now_at s k)))
-  settle w kGround s k c = s
-  settle w kDelay s k c = taken_in s k c.delay (high (now_at s c.a))
-  settle w kOr s k c = s
-  settle w kWhenTrue s k c = s
-  settle w kWhenFalse s k c = s
-  settle w kMerge s k c = holding s k (merge_step (eqb w 1) (high (before_at s k)) (held_at s k) (high (now_at s c.a)) (high (now_at s c.b))).held
-  settle w kReturn s k c = holding s k (return_step (eqb w 1) (high (before_at s k)) (held_at s k) (high (now_at s c.a)) (high (now_at s c.b))).held
-  settle w kMemory s k c = s
-  settle w kGated s k c = s
-  settle w kArray s k c = s
-  settle w kAddress s k c = s
-  settle w kRead s k c = s
-  settle w kLatch s k c = s
-  settle w kUnknown s k c = s
+  settle w k_constant s k c = s
+  settle w k_complement s k c = s
+  settle w k_operator s k c = s
+  settle w k_start s k c = set s (remaining_byte k) (remaining_step w (remaining_at s k) (high (now_at s k)))
+  settle w k_ground s k c = s
+  settle w k_delay s k c = taken_in s k c.delay (high (now_at s c.a))
+  settle w k_or s k c = s
+  settle w k_when_true s k c = s
+  settle w k_when_false s k c = s
+  settle w k_merge s k c = holding s k (merge_step (eqb w 1) (high (before_at s k)) (held_at s k) (high (now_at s c.a)) (high (now_at s c.b))).held
+  settle w k_return s k c = holding s k (return_step (eqb w 1) (high (before_at s k)) (held_at s k) (high (now_at s c.a)) (high (now_at s c.b))).held
+  settle w k_memory s k c = s
+  settle w k_gated s k c = s
+  settle w k_array s k c = s
+  settle w k_address s k c = s
+  settle w k_read s k c = s
+  settle w k_latch s k c = s
+  settle w k_unknown s k c = s
 
   abbrev pub settled : Netlist → List ℕ → ℕ → List ℕ
   settled net s k = settle net.pulse (shape (cell_at net.cells k).kind) s k (cell_at net.cells k)

@@ -57,12 +57,12 @@ compile_text_call options text lent =
 
 -- a full run of a text: 27, 19 to 21, 17, 18, 1 to 8, 22, 24 and 25, 13, 14
 abbrev pub run_text_checks : Options → List ℕ → List ℕ → ℕ → List ℕ → List ℕ → List Checked
-run_text_checks options text words n forFile lent =
-    given_check options ∷ text_checks text ++ full_run_checks options (text_program text) words n forFile lent
+run_text_checks options text words n for_file lent =
+    given_check options ∷ text_checks text ++ full_run_checks options (text_program text) words n for_file lent
 
 unfoldable pub run_text_call : Options → List ℕ → List ℕ → ℕ → List ℕ → List ℕ → ReturnedBoth
-run_text_call options text words n forFile lent =
+run_text_call options text words n for_file lent =
     let file = compiled_file options (text_program text) in
-    let c = first (run_text_checks options text words n forFile lent) in
+    let c = first (run_text_checks options text words n for_file lent) in
     let r = running Full c file (full_state file words n lent) (full_count file words n lent) lent in
-    record { answer = r.answer; netlist = (writing c file (length file) 0 forFile).lent; state = r.lent }
+    record { answer = r.answer; netlist = (writing c file (length file) 0 for_file).lent; state = r.lent }

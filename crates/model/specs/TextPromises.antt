@@ -53,8 +53,8 @@ pub record Texts : Type 0 where
   pub bytes : (text : List ℕ) → first (text_checks text) ≡ Accepted → Bytes (text_program text)
   pub compiled : (options : Options) (text lent : List ℕ) → first (text_checks text) ≡ Accepted
       → compile_text_call options text lent ≡ compile_call options (text_program text) lent
-  pub run : (options : Options) (text words : List ℕ) (n : ℕ) (forFile lent : List ℕ) → first (text_checks text) ≡ Accepted
-      → run_text_call options text words n forFile lent ≡ run_program_call options (text_program text) words n forFile lent
+  pub run : (options : Options) (text words : List ℕ) (n : ℕ) (for_file lent : List ℕ) → first (text_checks text) ≡ Accepted
+      → run_text_call options text words n for_file lent ≡ run_program_call options (text_program text) words n for_file lent
   -- the refusals in the published order, and what a refusal leaves
   pub reading : (G : Given) (text lent : List ℕ) →
       let c = written_verdict (read_text_call (load G) text lent).answer in
@@ -64,9 +64,9 @@ pub record Texts : Type 0 where
       let c = written_verdict (compile_text_call (load G) text lent).answer in
       Refuses (given_numbers ∷ just 17 ∷ just 17 ∷ just 18 ∷ program_numbers ∷ just 14 ∷ []) (compile_text_checks (load G) text lent) c
       × Leaves c lent (compile_text_call (load G) text lent).lent
-  pub runs : (G : Given) (text words : List ℕ) (n : ℕ) (forFile lent : List ℕ) →
-      let r = run_text_call (load G) text words n forFile lent in
+  pub runs : (G : Given) (text words : List ℕ) (n : ℕ) (for_file lent : List ℕ) →
+      let r = run_text_call (load G) text words n for_file lent in
       let c = verdict r.answer.outcome in
       Refuses (given_numbers ∷ just 17 ∷ just 17 ∷ just 18 ∷ program_numbers ∷ just 13 ∷ just 14 ∷ just 14 ∷ just 14 ∷ [])
-      (run_text_checks (load G) text words n forFile lent) c
-      × Leaves c forFile r.netlist × Leaves c lent r.state
+      (run_text_checks (load G) text words n for_file lent) c
+      × Leaves c for_file r.netlist × Leaves c lent r.state

@@ -11,7 +11,7 @@ use borrow.Author.Tests.{ne_eqb}
 use Rattle.model.specs.declared.Outcome.TheVariants.{Ended}
 use Rattle.model.specs.Word.{pick, is_zero, element_word}
 use Rattle.model.specs.Program.{Expr, const, var, compl, op, elem, Stmt, ok, tick, assign, assign_elem, seq, par, ite, while, repeat, loop, exit, array_var, reads, writes, touches}
-use Rattle.model.specs.Rules.{Costs, extended, postponed, Store, atEnd, at_exit, Run, done, still, owner, eval, put, over, kept, after, wait, chain, both, caught, whiles, repeats, loops, run}
+use Rattle.model.specs.Rules.{Costs, extended, postponed, Store, at_end, at_exit, Run, done, still, owner, eval, put, over, kept, after, wait, chain, both, caught, whiles, repeats, loops, run}
 use Rattle.model.specs.Calls.{listed, reference_answer}
 use Rattle.laws.specs.Program.Fit.{FormedExpr, Formed}
 use Rattle.laws.specs.Refusals.Laws.{not-both, by_le}
@@ -79,9 +79,9 @@ module _ (U : ℕ → Type 0) where
 
   chain-alike : (r q : Run) (f g : ℕ → Store → Run) → Alike r q → AlikeOn f g → Alike (chain r f) (chain q g)
   unfolding chain
-  chain-alike (done atEnd t σ) (done atEnd u τ) f g h c = rw h.1 (after-alike u (f u σ) (g u τ) (c u σ τ h.2))
-  chain-alike (done atEnd t σ) (done at_exit u τ) f g h c = not-way h.0
-  chain-alike (done at_exit t σ) (done atEnd u τ) f g h c = not-way (sym h.0)
+  chain-alike (done at_end t σ) (done at_end u τ) f g h c = rw h.1 (after-alike u (f u σ) (g u τ) (c u σ τ h.2))
+  chain-alike (done at_end t σ) (done at_exit u τ) f g h c = not-way h.0
+  chain-alike (done at_exit t σ) (done at_end u τ) f g h c = not-way (sym h.0)
   chain-alike (done at_exit t σ) (done at_exit u τ) f g h c = h
   chain-alike (done w t σ) still f g h c = absurd h
   chain-alike still (done v u τ) f g h c = absurd h
@@ -91,15 +91,15 @@ module _ (U : ℕ → Type 0) where
       → ((σ τ σ' τ' : Store) → Agree σ τ → Agree σ' τ' → Agree (i σ σ') (j τ τ')) → Alike r q → Alike r' q'
       → Alike (both i r r') (both j q q')
   unfolding both
-  both-alike i j (done atEnd t σ) (done atEnd u τ) (done atEnd t' σ') (done atEnd u' τ') c h h' = (refl, ap₂ max h.1 h'.1, c σ τ σ' τ' h.2 h'.2)
-  both-alike i j (done atEnd t σ) (done atEnd u τ) (done atEnd t' σ') (done at_exit u' τ') c h h' = not-way h'.0
-  both-alike i j (done atEnd t σ) (done atEnd u τ) (done at_exit t' σ') (done atEnd u' τ') c h h' = not-way (sym h'.0)
-  both-alike i j (done atEnd t σ) (done atEnd u τ) (done at_exit t' σ') (done at_exit u' τ') c h h' = tt
-  both-alike i j (done atEnd t σ) (done atEnd u τ) (done w' t' σ') still c h h' = absurd h'
-  both-alike i j (done atEnd t σ) (done atEnd u τ) still (done v' u' τ') c h h' = absurd h'
-  both-alike i j (done atEnd t σ) (done atEnd u τ) still still c h h' = tt
-  both-alike i j (done atEnd t σ) (done at_exit u τ) r' q' c h h' = not-way h.0
-  both-alike i j (done at_exit t σ) (done atEnd u τ) r' q' c h h' = not-way (sym h.0)
+  both-alike i j (done at_end t σ) (done at_end u τ) (done at_end t' σ') (done at_end u' τ') c h h' = (refl, ap₂ max h.1 h'.1, c σ τ σ' τ' h.2 h'.2)
+  both-alike i j (done at_end t σ) (done at_end u τ) (done at_end t' σ') (done at_exit u' τ') c h h' = not-way h'.0
+  both-alike i j (done at_end t σ) (done at_end u τ) (done at_exit t' σ') (done at_end u' τ') c h h' = not-way (sym h'.0)
+  both-alike i j (done at_end t σ) (done at_end u τ) (done at_exit t' σ') (done at_exit u' τ') c h h' = tt
+  both-alike i j (done at_end t σ) (done at_end u τ) (done w' t' σ') still c h h' = absurd h'
+  both-alike i j (done at_end t σ) (done at_end u τ) still (done v' u' τ') c h h' = absurd h'
+  both-alike i j (done at_end t σ) (done at_end u τ) still still c h h' = tt
+  both-alike i j (done at_end t σ) (done at_exit u τ) r' q' c h h' = not-way h.0
+  both-alike i j (done at_exit t σ) (done at_end u τ) r' q' c h h' = not-way (sym h.0)
   both-alike i j (done at_exit t σ) (done at_exit u τ) r' q' c h h' = tt
   both-alike i j (done w t σ) still r' q' c h h' = absurd h
   both-alike i j still (done v u τ) r' q' c h h' = absurd h
@@ -248,11 +248,11 @@ listed-agree σ τ (suc n) x l h = ap₂ ◌∷◌ (h x (omega arith)) (listed-a
 
 alike-answer : (n : ℕ) (r q : Run) → Alike Low r q → reference_answer n r ≡ reference_answer n q
 unfolding reference_answer
-alike-answer n (done atEnd t σ) (done atEnd u τ) h =
+alike-answer n (done at_end t σ) (done at_end u τ) h =
     ap₂ (λ (t : ℕ) (ws : List ℕ). record { outcome = Ended; instant = t; count = t + 1; words = ws }) h.1
     (listed-agree σ τ 16 0 (omega arith) h.2)
-alike-answer n (done atEnd t σ) (done at_exit u τ) h = not-way h.0
-alike-answer n (done at_exit t σ) (done atEnd u τ) h = not-way (sym h.0)
+alike-answer n (done at_end t σ) (done at_exit u τ) h = not-way h.0
+alike-answer n (done at_exit t σ) (done at_end u τ) h = not-way (sym h.0)
 alike-answer n (done at_exit t σ) (done at_exit u τ) h = refl
 alike-answer n (done w t σ) still h = absurd h
 alike-answer n still (done v u τ) h = absurd h

@@ -10,7 +10,7 @@ use native.Mathlib.Decide.{dec_lt}
 use borrow.Author.Tests.{eq-eqb, ne_eqb}
 use Rattle.model.specs.Word.{is_zero}
 use Rattle.model.specs.Program.{Expr, Stmt, while, repeat, loop}
-use Rattle.model.specs.Rules.{Costs, postponed, Store, atEnd, at_exit, Run, done, ended, still, eval, after, wait, chain, caught, whiles, repeats, loops, run}
+use Rattle.model.specs.Rules.{Costs, postponed, Store, at_end, at_exit, Run, done, ended, still, eval, after, wait, chain, caught, whiles, repeats, loops, run}
 use Rattle.laws.specs.Refusals.Laws.{by_bool}
 use Rattle.laws.specs.Rules.Laws.{extended-is, Body, wait-is, wait-short, whiles-stop, whiles-more, again, repeats-is, again-more, again-stop, round, loops_is, round_is}
 use Rattle.rules.specs.declared.ways.Ran.{Ran}
@@ -45,7 +45,7 @@ wait-same d k f g h = go (dec_lt k d)
 
 chain_same : (r : Run) (f g : ℕ → Store → Run) → ((t : ℕ) (σ : Store) → f t σ ≡ g t σ) → chain r f ≡ chain r g
 unfolding chain
-chain_same (done atEnd t σ) f g h = ap (after t) (h t σ)
+chain_same (done at_end t σ) f g h = ap (after t) (h t σ)
 chain_same (done at_exit t σ) f g h = refl
 chain_same still f g h = refl
 

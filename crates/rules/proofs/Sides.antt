@@ -5,7 +5,7 @@ use mathlib.Core.Bool.{Bool, true, false}
 use Prim.Native.Nat.{ℕ}
 use Rattle.model.specs.Word.{pick}
 use Rattle.model.specs.Program.{Stmt, par, writes, touches}
-use Rattle.model.specs.Rules.{Costs, Store, atEnd, at_exit, Run, done, ended, left, still, owner, over, kept, both, run}
+use Rattle.model.specs.Rules.{Costs, Store, at_end, at_exit, Run, done, ended, left, still, owner, over, kept, both, run}
 use Rattle.laws.specs.Program.Fit.{Formed, Separate}
 use Rattle.laws.specs.Refusals.Laws.{by_bool}
 use Rattle.laws.specs.Rules.Laws.{not-way}
@@ -14,7 +14,7 @@ use Rattle.rules.proofs.Agree.{Agree, Alike, run-alike}
 
 -- a run that is like one that ended
 ended-like : (U : ℕ → Type 0) (r : Run) (t : ℕ) (τ : Store) → Alike U r (ended t τ) → (σ : Store) × (r ≡ ended t σ) × Agree U σ τ
-ended-like U (done atEnd u σ) t τ h = (σ, ap (λ (t : ℕ). ended t σ) h.1, h.2)
+ended-like U (done at_end u σ) t τ h = (σ, ap (λ (t : ℕ). ended t σ) h.1, h.2)
 ended-like U (done at_exit u σ) t τ h = not-way (sym h.0)
 ended-like U still t τ h = absurd h
 
@@ -22,8 +22,8 @@ ended-like U still t τ h = absurd h
 unended-like : (U : ℕ → Type 0) (j : Store → Store → Store) (t : ℕ) (σ : Store) (r : Run) (l : Bool) (u : ℕ) (τ : Store) → Alike U r (pick l (left u τ) still)
     → both j (ended t σ) r ≡ still
 unfolding both
-unended-like U j t σ (done atEnd u' τ') true u τ h = not-way h.0
-unended-like U j t σ (done atEnd u' τ') false u τ h = absurd h
+unended-like U j t σ (done at_end u' τ') true u τ h = not-way h.0
+unended-like U j t σ (done at_end u' τ') false u τ h = absurd h
 unended-like U j t σ (done at_exit u' τ') l u τ h = refl
 unended-like U j t σ still l u τ h = refl
 
@@ -36,7 +36,7 @@ module _ (κ : Costs) (P Q : Stmt) (formed : Formed (par P Q)) (apart : Separate
   second_alike : Alike Touched (run κ k Q σ) (run κ k Q σ₁)
   second_alike =
       run-alike Touched κ Q formed.1 (λ x r. r) k σ σ₁
-      (λ x r. sym (unwritten κ P formed.0 x (apart-unwritten P Q apart.2.0 (owner x) r) k atEnd t σ σ₁ p))
+      (λ x r. sym (unwritten κ P formed.0 x (apart-unwritten P Q apart.2.0 (owner x) r) k at_end t σ σ₁ p))
 
   pub second-unended : (l : Bool) (u : ℕ) (τ : Store) → run κ k Q σ₁ ≡ pick l (left u τ) still → both (kept P Q σ) (ended t σ₁) (run κ k Q σ) ≡ still
   second-unended l u τ q = unended-like Touched (kept P Q σ) t σ₁ (run κ k Q σ) l u τ (subst (Alike Touched (run κ k Q σ)) q second_alike)
@@ -50,7 +50,7 @@ module _ (κ : Costs) (P Q : Stmt) (formed : Formed (par P Q)) (apart : Separate
       Kept x = τ x ≡ pick (writes P (owner x)) (σ₁ x) (pick (writes Q (owner x)) (σ₂ x) (σ x))
 
       stays : (x : ℕ) → writes Q (owner x) ≡ false → τ x ≡ σ₁ x
-      stays x v = unwritten κ Q formed.1 x v k atEnd u σ₁ τ q
+      stays x v = unwritten κ Q formed.1 x v k at_end u σ₁ τ q
 
       written : (x : ℕ) → writes P (owner x) ≡ true → Kept x
       written x b = rw b (stays x (apart-unwritten Q P apart.2.1 (owner x) (writes-touches P (owner x) b)))
@@ -59,7 +59,7 @@ module _ (κ : Costs) (P Q : Stmt) (formed : Formed (par P Q)) (apart : Separate
       alone x b =
           rw b
           (by_bool (writes Q (owner x)) (λ v. rw v (sym (a x (writes-touches Q (owner x) v))))
-          (λ v. rw v (stays x v ∙ unwritten κ P formed.0 x b k atEnd t σ σ₁ p)))
+          (λ v. rw v (stays x v ∙ unwritten κ P formed.0 x b k at_end t σ σ₁ p)))
 
   pub second_ended : (u : ℕ) (τ : Store) → run κ k Q σ₁ ≡ ended u τ → (σ₂ : Store) × (run κ k Q σ ≡ ended u σ₂) × (τ ≡ kept P Q σ σ₁ σ₂)
   second_ended u τ q =

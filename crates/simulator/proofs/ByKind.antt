@@ -11,7 +11,7 @@ use lib.ListN.{set}
 use Rattle.model.specs.declared.Cell.{Cell}
 use Rattle.model.specs.declared.Format.{Format}
 use Rattle.model.specs.Word.{pick, bit, is_zero, operate, element_of}
-use Rattle.model.specs.Circuit.{remaining_step, Netlist, cell_at, high, merges, step_of, Shape, cell_table, shape, kConstant, kComplement, kOperator, kStart, kGround, kDelay, kOr, kWhenTrue, kWhenFalse, kMerge, kReturn, kMemory, kGated, kArray, kAddress, kRead, kLatch, kUnknown}
+use Rattle.model.specs.Circuit.{remaining_step, Netlist, cell_at, high, merges, step_of, Shape, cell_table, shape, k_constant, k_complement, k_operator, k_start, k_ground, k_delay, k_or, k_when_true, k_when_false, k_merge, k_return, k_memory, k_gated, k_array, k_address, k_read, k_latch, k_unknown}
 use Rattle.model.specs.State.{remaining_byte, remaining_at, element_now, now_at, before_at, held_at, line_bit, taken_in, next_value, settle}
 use Rattle.laws.specs.Circuit.Shapes.{start-kind, delay-kind, merge-kind, return-kind, by-merge, operator-shape, apart}
 use Rattle.laws.specs.Refusals.Laws.{not-both}
@@ -46,7 +46,7 @@ pub record Still (kind : ℕ) : Type 0 where
 
 -- a ground, a cell of an array, or of no kind
 shows-none : Bool → Bool → Bool → Shape
-shows-none ground array address = pick ground kGround (pick array kArray (pick address kAddress kUnknown))
+shows-none ground array address = pick ground k_ground (pick array k_array (pick address k_address k_unknown))
 
 shape-still : (kind : ℕ) → Still kind
     → shape kind ≡ shows-none (leb 33 kind && leb kind 33) (leb 42 kind && leb kind 42) (leb 43 kind && leb kind 43)
@@ -170,21 +170,21 @@ module _ (w : ℕ) (F : Format) (s : List ℕ) (k : ℕ) (c : Cell) where
   settle_other h g z = go (shape c.kind) refl
     where
       go : (sh : Shape) → shape c.kind ≡ sh → settle F w sh s k c ≡ s
-      go kConstant e = refl
-      go kComplement e = refl
-      go kOperator e = refl
-      go kStart e = absurd (z (start-kind c.kind e))
-      go kGround e = refl
-      go kDelay e = absurd (h (delay-kind c.kind e))
-      go kOr e = refl
-      go kWhenTrue e = refl
-      go kWhenFalse e = refl
-      go kMerge e = not-both (rw (merge-kind c.kind e) refl) g
-      go kReturn e = not-both (rw (return-kind c.kind e) refl) g
-      go kMemory e = refl
-      go kGated e = refl
-      go kArray e = refl
-      go kAddress e = refl
-      go kRead e = refl
-      go kLatch e = refl
-      go kUnknown e = refl
+      go k_constant e = refl
+      go k_complement e = refl
+      go k_operator e = refl
+      go k_start e = absurd (z (start-kind c.kind e))
+      go k_ground e = refl
+      go k_delay e = absurd (h (delay-kind c.kind e))
+      go k_or e = refl
+      go k_when_true e = refl
+      go k_when_false e = refl
+      go k_merge e = not-both (rw (merge-kind c.kind e) refl) g
+      go k_return e = not-both (rw (return-kind c.kind e) refl) g
+      go k_memory e = refl
+      go k_gated e = refl
+      go k_array e = refl
+      go k_address e = refl
+      go k_read e = refl
+      go k_latch e = refl
+      go k_unknown e = refl

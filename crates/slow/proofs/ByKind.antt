@@ -11,7 +11,7 @@ use borrow.Author.Tests.{eq-eqb, ne_eqb, le-leb, lt-leb, lt-ltb, le-ltb}
 use Rattle.model.specs.declared.Cell.{Cell}
 use Rattle.model.specs.declared.Merge.{Merge}
 use Rattle.model.specs.Word.{pick, bit, is_zero, operate, index, put16}
-use Rattle.model.specs.Circuit.{high, Shape, cell_table, shape, kConstant, kComplement, kOperator, kStart, kGround, kDelay, kOr, kWhenTrue, kWhenFalse, kMerge, kReturn, kMemory, kGated, kArray, kAddress, kRead, kLatch, kUnknown}
+use Rattle.model.specs.Circuit.{high, Shape, cell_table, shape, k_constant, k_complement, k_operator, k_start, k_ground, k_delay, k_or, k_when_true, k_when_false, k_merge, k_return, k_memory, k_gated, k_array, k_address, k_read, k_latch, k_unknown}
 use Rattle.model.specs.Gates.{past}
 use Rattle.laws.specs.Circuit.Shapes.{operator-shape, apart}
 use Rattle.slow.specs.Ring.{slot, word_in, element_in, held_ring, held_of, held_in, merge_in, merged_in, fallen_in, shown_in, time_at, taken_in, Leaves}
@@ -140,7 +140,7 @@ pub record Still (kind : ℕ) : Type 0 where
 
 -- a ground, a cell of an array, or of no kind
 shows-none : Bool → Bool → Bool → Shape
-shows-none ground array address = pick ground kGround (pick array kArray (pick address kAddress kUnknown))
+shows-none ground array address = pick ground k_ground (pick array k_array (pick address k_address k_unknown))
 
 shape-still : (kind : ℕ) → Still kind
     → shape kind ≡ shows-none (leb 33 kind && leb kind 33) (leb 42 kind && leb kind 42) (leb 43 kind && leb kind 43)

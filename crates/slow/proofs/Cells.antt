@@ -11,7 +11,7 @@ use borrow.Author.Tests.{eqb-true}
 use Rattle.model.specs.declared.Cell.{Cell}
 use Rattle.model.specs.Word.{bit}
 use Rattle.model.specs.Circuit.{cell_at, merges, memories, Shape, cell_table, shape}
-use Rattle.model.specs.Circuit.{kConstant, kComplement, kOperator, kStart, kGround, kDelay, kOr, kWhenTrue, kWhenFalse, kMerge, kReturn, kMemory, kGated, kArray, kAddress, kRead, kLatch, kUnknown}
+use Rattle.model.specs.Circuit.{k_constant, k_complement, k_operator, k_start, k_ground, k_delay, k_or, k_when_true, k_when_false, k_merge, k_return, k_memory, k_gated, k_array, k_address, k_read, k_latch, k_unknown}
 use Rattle.model.specs.NetlistFile.{cell_from, in_list}
 use Rattle.laws.specs.Circuit.Ordered.{Looks, kinds, Ordered}
 use Rattle.laws.specs.Refusals.Laws.{not-both}
@@ -32,26 +32,26 @@ unfolding cell_from
 net-delay cells n k h = ap (λ (c : Cell). c.delay) (net-cell cells n k h)
 
 -- the cells that a cell of a shape looks at
-looks-low : (sh : Shape) (K : ℕ → ℕ) (n k : ℕ) (c : Cell) → k < n → Looks (cell_table sh).row K n k c → ((sh ≡ kConstant → ⊥) → c.a < n) × (c.b < n)
+looks-low : (sh : Shape) (K : ℕ → ℕ) (n k : ℕ) (c : Cell) → k < n → Looks (cell_table sh).row K n k c → ((sh ≡ k_constant → ⊥) → c.a < n) × (c.b < n)
 unfolding cell_table
-looks-low kConstant K n k c l o = (λ z. absurd (z refl), omega (arith, o.2))
-looks-low kComplement K n k c l o = (λ z. omega (arith, o.1.0), omega (arith, o.2))
-looks-low kOperator K n k c l o = (λ z. omega (arith, o.1.0), omega (arith, o.2.0))
-looks-low kStart K n k c l o = (λ z. omega (arith, o.1), omega (arith, o.2))
-looks-low kGround K n k c l o = (λ z. omega (arith, o.1), omega (arith, o.2))
-looks-low kDelay K n k c l o = (λ z. o.1.0, omega (arith, o.2))
-looks-low kOr K n k c l o = (λ z. omega (arith, o.1.0), omega (arith, o.2.0))
-looks-low kWhenTrue K n k c l o = (λ z. omega (arith, o.1.0), omega (arith, o.2.0))
-looks-low kWhenFalse K n k c l o = (λ z. omega (arith, o.1.0), omega (arith, o.2.0))
-looks-low kMerge K n k c l o = (λ z. omega (arith, o.1.0), omega (arith, o.2.0))
-looks-low kReturn K n k c l o = (λ z. omega (arith, o.1.0), omega (arith, o.2.0))
-looks-low kMemory K n k c l o = (λ z. omega (arith, o.1.0), o.2.0)
-looks-low kGated K n k c l o = (λ z. omega (arith, o.1.0), omega (arith, o.2.0))
-looks-low kArray K n k c l o = (λ z. omega (arith, o.1.0), o.2.0)
-looks-low kAddress K n k c l o = (λ z. o.1.0, omega (arith, o.2))
-looks-low kRead K n k c l o = (λ z. omega (arith, o.1.0), omega (arith, o.2.0))
-looks-low kLatch K n k c l o = (λ z. o.1.0, o.2.0)
-looks-low kUnknown K n k c l o = absurd o.0
+looks-low k_constant K n k c l o = (λ z. absurd (z refl), omega (arith, o.2))
+looks-low k_complement K n k c l o = (λ z. omega (arith, o.1.0), omega (arith, o.2))
+looks-low k_operator K n k c l o = (λ z. omega (arith, o.1.0), omega (arith, o.2.0))
+looks-low k_start K n k c l o = (λ z. omega (arith, o.1), omega (arith, o.2))
+looks-low k_ground K n k c l o = (λ z. omega (arith, o.1), omega (arith, o.2))
+looks-low k_delay K n k c l o = (λ z. o.1.0, omega (arith, o.2))
+looks-low k_or K n k c l o = (λ z. omega (arith, o.1.0), omega (arith, o.2.0))
+looks-low k_when_true K n k c l o = (λ z. omega (arith, o.1.0), omega (arith, o.2.0))
+looks-low k_when_false K n k c l o = (λ z. omega (arith, o.1.0), omega (arith, o.2.0))
+looks-low k_merge K n k c l o = (λ z. omega (arith, o.1.0), omega (arith, o.2.0))
+looks-low k_return K n k c l o = (λ z. omega (arith, o.1.0), omega (arith, o.2.0))
+looks-low k_memory K n k c l o = (λ z. omega (arith, o.1.0), o.2.0)
+looks-low k_gated K n k c l o = (λ z. omega (arith, o.1.0), omega (arith, o.2.0))
+looks-low k_array K n k c l o = (λ z. omega (arith, o.1.0), o.2.0)
+looks-low k_address K n k c l o = (λ z. o.1.0, omega (arith, o.2))
+looks-low k_read K n k c l o = (λ z. omega (arith, o.1.0), omega (arith, o.2.0))
+looks-low k_latch K n k c l o = (λ z. o.1.0, o.2.0)
+looks-low k_unknown K n k c l o = absurd o.0
 
 module _ (cells : List ℕ) (n k : ℕ) (l : k < n) (o : Ordered (net_of cells n)) where
   abbrev net : List Cell
@@ -60,7 +60,7 @@ module _ (cells : List ℕ) (n k : ℕ) (l : k < n) (o : Ordered (net_of cells n
   inside : k < length net
   inside = omega (arith, net-length cells n)
 
-  constant-kind : (j : ℕ) → shape j ≡ kConstant → j ≡ 1
+  constant-kind : (j : ℕ) → shape j ≡ k_constant → j ≡ 1
   unfolding cell_table
   constant-kind j e = only-kind j 1 (ap (λ (x : Shape). (cell_table x).first) e) (ap (λ (x : Shape). (cell_table x).last) e)
 

@@ -15,7 +15,7 @@ use Rattle.model.specs.declared.Merged.{Merged}
 use Rattle.model.specs.Word.{pick, bit, is_zero, operate, index, element_of, element_word}
 use Rattle.model.specs.Program.{time_in}
 use Rattle.model.specs.Circuit.{cell_at, array_at, high, level, falls, Sig, Values, Elements, pulses, remaining_before, remaining_step, memory, latch, element, delayed, Step, merged, merged_before, merge_step, return_step, held_before, merges, step_of, start_word, Shape, shape, cell_table, equation}
-use Rattle.model.specs.Circuit.{kConstant, kComplement, kOperator, kStart, kGround, kDelay, kOr, kWhenTrue, kWhenFalse, kMerge, kReturn, kMemory, kGated, kArray, kAddress, kRead, kLatch, kUnknown}
+use Rattle.model.specs.Circuit.{k_constant, k_complement, k_operator, k_start, k_ground, k_delay, k_or, k_when_true, k_when_false, k_merge, k_return, k_memory, k_gated, k_array, k_address, k_read, k_latch, k_unknown}
 use Rattle.model.specs.Gates.{past, gate, first_start, slow_cell}
 use Rattle.laws.specs.Refusals.Laws.{by_bool, not-both}
 use Rattle.laws.specs.Circuit.Ordered.{Looks, kinds, Ordered}
@@ -154,36 +154,36 @@ module _ (net : List Cell) (words : ℕ → ℕ) (W : Values) (k : ℕ) (l : k <
     shown-instant : (sh : Shape) → shape c.kind ≡ sh → late sh ≡ false → Looks (cell_table sh).row (kinds net) n k c → (d word₀ : ℕ) (E : Elements)
         → shown_in sh s n k c t d word₀ ≡ equation 1 sh first_start word₀ E W k c t
     unfolding shown_in equation cell_table late merged
-    shown-instant kConstant q z o d word₀ E = refl
-    shown-instant kComplement q z o d word₀ E = not-both refl z
-    shown-instant kOperator q z o d word₀ E = not-both refl z
-    shown-instant kStart q z o d word₀ E = ap bit (sym (start_is t))
-    shown-instant kGround q z o d word₀ E = refl
-    shown-instant kDelay q z o d word₀ E =
+    shown-instant k_constant q z o d word₀ E = refl
+    shown-instant k_complement q z o d word₀ E = not-both refl z
+    shown-instant k_operator q z o d word₀ E = not-both refl z
+    shown-instant k_start q z o d word₀ E = ap bit (sym (start_is t))
+    shown-instant k_ground q z o d word₀ E = refl
+    shown-instant k_delay q z o d word₀ E =
         ap (λ (x : ℕ). bit (high x))
         (past-read c.delay (word_in s c.a) (W c.a) t
         (λ u e. let one = o.0.0 in let most = o.0.1 in h.cells c.a u o.1.0 (omega arith) (omega arith)))
         ∙ ap bit (delay-is c.delay (W c.a) t)
-    shown-instant kOr q z o d word₀ E = ap₂ (λ (x y : Bool). bit (x || y)) (pulse c.a o.1.0) (pulse c.b o.2.0)
-    shown-instant kWhenTrue q z o d word₀ E =
+    shown-instant k_or q z o d word₀ E = ap₂ (λ (x y : Bool). bit (x || y)) (pulse c.a o.1.0) (pulse c.b o.2.0)
+    shown-instant k_when_true q z o d word₀ E =
         ap₂ (λ (x : Bool) (y : ℕ). bit (x && not (is_zero y))) (pulse c.a o.1.0) (now-is c.b o.2.0)
-    shown-instant kWhenFalse q z o d word₀ E =
+    shown-instant k_when_false q z o d word₀ E =
         ap₂ (λ (x : Bool) (y : ℕ). bit (x && is_zero y)) (pulse c.a o.1.0) (now-is c.b o.2.0)
-    shown-instant kMerge q z o d word₀ E =
+    shown-instant k_merge q z o d word₀ E =
         let m = of-merge 1 c.kind q in
         ap (λ (r : Merged). bit r.out) (merge-is m.0 o.1.0 o.2.0)
         ∙ ap (λ (step : Step). bit (merged step (level W c.a) (level W c.b) t)) m.1
-    shown-instant kReturn q z o d word₀ E =
+    shown-instant k_return q z o d word₀ E =
         let m = of-return 1 c.kind q in
         ap (λ (r : Merged). bit r.out) (merge-is m.0 o.1.0 o.2.0)
         ∙ ap (λ (step : Step). bit (merged step (level W c.a) (level W c.b) t)) m.1
-    shown-instant kMemory q z o d word₀ E = memory-is word₀ t h o.1.0 o.2.0
-    shown-instant kGated q z o d word₀ E = ap₂ (λ (x : Bool) (y : ℕ). pick x y 0) (pulse c.a o.1.0) (now-is c.b o.2.0)
-    shown-instant kArray q z o d word₀ E = refl
-    shown-instant kAddress q z o d word₀ E = refl
-    shown-instant kRead q z o d word₀ E = not-both refl z
-    shown-instant kLatch q z o d word₀ E = latch-is t h o.1.0 o.2.0
-    shown-instant kUnknown q z o d word₀ E = refl
+    shown-instant k_memory q z o d word₀ E = memory-is word₀ t h o.1.0 o.2.0
+    shown-instant k_gated q z o d word₀ E = ap₂ (λ (x : Bool) (y : ℕ). pick x y 0) (pulse c.a o.1.0) (now-is c.b o.2.0)
+    shown-instant k_array q z o d word₀ E = refl
+    shown-instant k_address q z o d word₀ E = refl
+    shown-instant k_read q z o d word₀ E = not-both refl z
+    shown-instant k_latch q z o d word₀ E = latch-is t h o.1.0 o.2.0
+    shown-instant k_unknown q z o d word₀ E = refl
 
     -- an operator, with a time that is a byte
     inputs_are : (d a : ℕ) → d ≤ 255 → a < k → past d (word_in s a) t ≡ past d (W a) t
@@ -202,24 +202,24 @@ module _ (net : List Cell) (words : ℕ → ℕ) (W : Values) (k : ℕ) (l : k <
 
 -- kind 44 is the read's alone
 is_read : Shape → Bool
-is_read kConstant = false
-is_read kComplement = false
-is_read kOperator = false
-is_read kStart = false
-is_read kGround = false
-is_read kDelay = false
-is_read kOr = false
-is_read kWhenTrue = false
-is_read kWhenFalse = false
-is_read kMerge = false
-is_read kReturn = false
-is_read kMemory = false
-is_read kGated = false
-is_read kArray = false
-is_read kAddress = false
-is_read kRead = true
-is_read kLatch = false
-is_read kUnknown = false
+is_read k_constant = false
+is_read k_complement = false
+is_read k_operator = false
+is_read k_start = false
+is_read k_ground = false
+is_read k_delay = false
+is_read k_or = false
+is_read k_when_true = false
+is_read k_when_false = false
+is_read k_merge = false
+is_read k_return = false
+is_read k_memory = false
+is_read k_gated = false
+is_read k_array = false
+is_read k_address = false
+is_read k_read = true
+is_read k_latch = false
+is_read k_unknown = false
 
 no_read : (k : ℕ) (sh : Shape) → shape k ≡ sh → is_read sh ≡ false → eqb k 44 ≡ false
 unfolding shape is_read
@@ -256,19 +256,19 @@ module _ (times : List ℕ) (small : (i : ℕ) → get_or times i 0 < 256) (net 
 
   right : (sh : Shape) → shape cₖ.kind ≡ sh → Looks (cell_table sh).row (kinds net) (length net) k cₖ → Right sh
   unfolding shown_in gate equation cell_table late is_read
-  right kConstant q y = plain kConstant q refl y
-  right kComplement q y =
+  right k_constant q y = plain k_constant q refl y
+  right k_complement q y =
       let e3 : cₖ.kind ≡ 3 =
       only-kind cₖ.kind 3 (ap (λ (x : Shape). (cell_table x).first) q) (ap (λ (x : Shape). (cell_table x).last) q) in
-      let n44 = no_read cₖ.kind kComplement q refl in
+      let n44 = no_read cₖ.kind k_complement q refl in
       let i = inputs_are net words W k l s t h in
       by_bool (ltb k ors)
       (λ e. rw (e, n44, e3) (ap (λ (x : ℕ). operate 3 x 0) (i (τ 3) cₖ.a (omega (arith, small 3)) y.1.0)))
       (λ e.
       rw e
       (ap (λ (x : ℕ). operate 3 x 0) (i 0 cₖ.a (omega arith) y.1.0 ∙ past-zero (W cₖ.a) t)))
-  right kOperator q y =
-      let n44 = no_read cₖ.kind kOperator q refl in
+  right k_operator q y =
+      let n44 = no_read cₖ.kind k_operator q refl in
       let i = inputs_are net words W k l s t h in
       by_bool (ltb k ors)
       (λ e.
@@ -279,19 +279,19 @@ module _ (times : List ℕ) (small : (i : ℕ) → get_or times i 0 < 256) (net 
       rw e
       (ap₂ (operate cₖ.kind) (i 0 cₖ.a (omega arith) y.1.0 ∙ past-zero (W cₖ.a) t)
       (i 0 cₖ.b (omega arith) y.2.0 ∙ past-zero (W cₖ.b) t)))
-  right kStart q y = plain kStart q refl y
-  right kGround q y = plain kGround q refl y
-  right kDelay q y = plain kDelay q refl y
-  right kOr q y = plain kOr q refl y
-  right kWhenTrue q y = plain kWhenTrue q refl y
-  right kWhenFalse q y = plain kWhenFalse q refl y
-  right kMerge q y = plain kMerge q refl y
-  right kReturn q y = plain kReturn q refl y
-  right kMemory q y = plain kMemory q refl y
-  right kGated q y = plain kGated q refl y
-  right kArray q y = plain kArray q refl y
-  right kAddress q y = plain kAddress q refl y
-  right kRead q y =
+  right k_start q y = plain k_start q refl y
+  right k_ground q y = plain k_ground q refl y
+  right k_delay q y = plain k_delay q refl y
+  right k_or q y = plain k_or q refl y
+  right k_when_true q y = plain k_when_true q refl y
+  right k_when_false q y = plain k_when_false q refl y
+  right k_merge q y = plain k_merge q refl y
+  right k_return q y = plain k_return q refl y
+  right k_memory q y = plain k_memory q refl y
+  right k_gated q y = plain k_gated q refl y
+  right k_array q y = plain k_array q refl y
+  right k_address q y = plain k_address q refl y
+  right k_read q y =
       let e44 : cₖ.kind ≡ 44 =
       only-kind cₖ.kind 44 (ap (λ (x : Shape). (cell_table x).first) q) (ap (λ (x : Shape). (cell_table x).last) q) in
       let r : (d : ℕ) → d ≤ 255 → past d (word_in s (held_ring (length net) k)) t ≡ past d (read_word net words W k) t =
@@ -299,8 +299,8 @@ module _ (times : List ℕ) (small : (i : ℕ) → get_or times i 0 < 256) (net 
       by_bool (ltb k ors)
       (λ e. rw (e, eq-eqb cₖ.kind 44 e44) (r (τ 10) (omega (arith, small 10))))
       (λ e. rw e (r 0 (omega arith) ∙ past-zero _ t))
-  right kLatch q y = plain kLatch q refl y
-  right kUnknown q y = plain kUnknown q refl y
+  right k_latch q y = plain k_latch q refl y
+  right k_unknown q y = plain k_unknown q refl y
 
   pub shown-right : shown_in (shape cₖ.kind) s (length net) k cₖ t (time_at times ors k cₖ.kind) word₀ ≡ slow_cell τ net ors words W k t
   unfolding slow_cell

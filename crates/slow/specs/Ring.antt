@@ -8,7 +8,7 @@ use Rattle.model.specs.declared.Merge.{Merge}
 use Rattle.model.specs.declared.Merged.{Merged}
 use Rattle.model.specs.Word.{pick, bit, is_zero, operate, index, element_of, element_word, get16}
 use Rattle.model.specs.Program.{time_in}
-use Rattle.model.specs.Circuit.{cell_at, array_at, high, level, Values, element, held_before, merges, step_of, memories, Shape, shape, kConstant, kComplement, kOperator, kStart, kGround, kDelay, kOr, kWhenTrue, kWhenFalse, kMerge, kReturn, kMemory, kGated, kArray, kAddress, kRead, kLatch, kUnknown}
+use Rattle.model.specs.Circuit.{cell_at, array_at, high, level, Values, element, held_before, merges, step_of, memories, Shape, shape, k_constant, k_complement, k_operator, k_start, k_ground, k_delay, k_or, k_when_true, k_when_false, k_merge, k_return, k_memory, k_gated, k_array, k_address, k_read, k_latch, k_unknown}
 use Rattle.model.specs.NetlistFile.{cell_from, cells_at, in_list}
 use Rattle.model.specs.Calls.{word_at}
 use Rattle.model.specs.Gates.{past, slow_size, slow_values}
@@ -58,24 +58,24 @@ fallen_in s a t = high (word_in s a (t - 1)) && not (high (word_in s a t))
 
 -- what cell k of n, which is c, shows at instant t; d is its time, word₀ its start word
 unfoldable pub shown_in : Shape → List ℕ → ℕ → ℕ → Cell → ℕ → ℕ → ℕ → ℕ
-shown_in kConstant s n k c t d word₀ = c.a
-shown_in kComplement s n k c t d word₀ = operate 3 (past d (word_in s c.a) t) 0
-shown_in kOperator s n k c t d word₀ = operate c.kind (past d (word_in s c.a) t) (past d (word_in s c.b) t)
-shown_in kStart s n k c t d word₀ = bit (eqb t 0)
-shown_in kGround s n k c t d word₀ = 0
-shown_in kDelay s n k c t d word₀ = bit (high (past c.delay (word_in s c.a) t))
-shown_in kOr s n k c t d word₀ = bit (high (word_in s c.a t) || high (word_in s c.b t))
-shown_in kWhenTrue s n k c t d word₀ = bit (high (word_in s c.a t) && not (is_zero (word_in s c.b t)))
-shown_in kWhenFalse s n k c t d word₀ = bit (high (word_in s c.a t) && is_zero (word_in s c.b t))
-shown_in kMerge s n k c t d word₀ = bit (merged_in s n k c t).out
-shown_in kReturn s n k c t d word₀ = bit (merged_in s n k c t).out
-shown_in kMemory s n k c t d word₀ = pick (eqb t 0) word₀ (pick (fallen_in s c.a t) (word_in s c.b (t - 1)) (word_in s k (t - 1)))
-shown_in kGated s n k c t d word₀ = pick (high (word_in s c.a t)) (word_in s c.b t) 0
-shown_in kArray s n k c t d word₀ = 0
-shown_in kAddress s n k c t d word₀ = 0
-shown_in kRead s n k c t d word₀ = past d (word_in s (held_ring n k)) t
-shown_in kLatch s n k c t d word₀ = pick (eqb t 0) 0 (pick (high (word_in s c.a (t - 1))) (word_in s c.b (t - 1)) (word_in s k (t - 1)))
-shown_in kUnknown s n k c t d word₀ = 0
+shown_in k_constant s n k c t d word₀ = c.a
+shown_in k_complement s n k c t d word₀ = operate 3 (past d (word_in s c.a) t) 0
+shown_in k_operator s n k c t d word₀ = operate c.kind (past d (word_in s c.a) t) (past d (word_in s c.b) t)
+shown_in k_start s n k c t d word₀ = bit (eqb t 0)
+shown_in k_ground s n k c t d word₀ = 0
+shown_in k_delay s n k c t d word₀ = bit (high (past c.delay (word_in s c.a) t))
+shown_in k_or s n k c t d word₀ = bit (high (word_in s c.a t) || high (word_in s c.b t))
+shown_in k_when_true s n k c t d word₀ = bit (high (word_in s c.a t) && not (is_zero (word_in s c.b t)))
+shown_in k_when_false s n k c t d word₀ = bit (high (word_in s c.a t) && is_zero (word_in s c.b t))
+shown_in k_merge s n k c t d word₀ = bit (merged_in s n k c t).out
+shown_in k_return s n k c t d word₀ = bit (merged_in s n k c t).out
+shown_in k_memory s n k c t d word₀ = pick (eqb t 0) word₀ (pick (fallen_in s c.a t) (word_in s c.b (t - 1)) (word_in s k (t - 1)))
+shown_in k_gated s n k c t d word₀ = pick (high (word_in s c.a t)) (word_in s c.b t) 0
+shown_in k_array s n k c t d word₀ = 0
+shown_in k_address s n k c t d word₀ = 0
+shown_in k_read s n k c t d word₀ = past d (word_in s (held_ring n k)) t
+shown_in k_latch s n k c t d word₀ = pick (eqb t 0) 0 (pick (high (word_in s c.a (t - 1))) (word_in s c.b (t - 1)) (word_in s k (t - 1)))
+shown_in k_unknown s n k c t d word₀ = 0
 
 -- the time of an operator, and of none behind the walk; that of kind 44 is kind 10's
 abbrev pub time_at : List ℕ → ℕ → ℕ → ℕ → ℕ

@@ -6,7 +6,7 @@ use Rattle.std.proofs.Common.{◌∙◌, arith, eqb-true}
 use Rattle.model.specs.declared.Cell.{Cell}
 use Rattle.model.specs.Word.{pick, operate, index}
 use Rattle.model.specs.Circuit.{cell_at, Sig, Values, Elements, element, start_word, Shape, cell_table, shape, equation}
-use Rattle.model.specs.Circuit.{kConstant, kComplement, kOperator, kStart, kGround, kDelay, kOr, kWhenTrue, kWhenFalse, kMerge, kReturn, kMemory, kGated, kArray, kAddress, kRead, kLatch, kUnknown}
+use Rattle.model.specs.Circuit.{k_constant, k_complement, k_operator, k_start, k_ground, k_delay, k_or, k_when_true, k_when_false, k_merge, k_return, k_memory, k_gated, k_array, k_address, k_read, k_latch, k_unknown}
 use Rattle.model.specs.Gates.{past, gate, first_start, slow_cell, slow_values}
 use Rattle.laws.specs.Circuit.Ordered.{Looks, kinds, Ordered}
 use Rattle.laws.specs.Refusals.Laws.{by_bool, not-both}
@@ -19,101 +19,101 @@ past_same d w w' t h = ap (λ (v : ℕ). pick (leb d t) v 0) (h (t - d) (omega a
 
 -- the shapes of operators
 unfoldable pub late : Shape → Bool
-late kConstant = false
-late kComplement = true
-late kOperator = true
-late kStart = false
-late kGround = false
-late kDelay = false
-late kOr = false
-late kWhenTrue = false
-late kWhenFalse = false
-late kMerge = false
-late kReturn = false
-late kMemory = false
-late kGated = false
-late kArray = false
-late kAddress = false
-late kRead = true
-late kLatch = false
-late kUnknown = false
+late k_constant = false
+late k_complement = true
+late k_operator = true
+late k_start = false
+late k_ground = false
+late k_delay = false
+late k_or = false
+late k_when_true = false
+late k_when_false = false
+late k_merge = false
+late k_return = false
+late k_memory = false
+late k_gated = false
+late k_array = false
+late k_address = false
+late k_read = true
+late k_latch = false
+late k_unknown = false
 
 -- all others are as in the ideal circuit
 pub instant-gate : (s : Shape) → late s ≡ false → (τ : ℕ → ℕ) (starts : Sig) (first : ℕ) (E : Elements) (W : Values) (k : ℕ) (c : Cell) (t : ℕ)
     → gate τ s starts first E W k c t ≡ equation 1 s starts first E W k c t
 unfolding late gate
-instant-gate kConstant e τ starts first E W k c t = refl
-instant-gate kComplement e τ starts first E W k c t = not-both refl e
-instant-gate kOperator e τ starts first E W k c t = not-both refl e
-instant-gate kStart e τ starts first E W k c t = refl
-instant-gate kGround e τ starts first E W k c t = refl
-instant-gate kDelay e τ starts first E W k c t = refl
-instant-gate kOr e τ starts first E W k c t = refl
-instant-gate kWhenTrue e τ starts first E W k c t = refl
-instant-gate kWhenFalse e τ starts first E W k c t = refl
-instant-gate kMerge e τ starts first E W k c t = refl
-instant-gate kReturn e τ starts first E W k c t = refl
-instant-gate kMemory e τ starts first E W k c t = refl
-instant-gate kGated e τ starts first E W k c t = refl
-instant-gate kArray e τ starts first E W k c t = refl
-instant-gate kAddress e τ starts first E W k c t = refl
-instant-gate kRead e τ starts first E W k c t = not-both refl e
-instant-gate kLatch e τ starts first E W k c t = refl
-instant-gate kUnknown e τ starts first E W k c t = refl
+instant-gate k_constant e τ starts first E W k c t = refl
+instant-gate k_complement e τ starts first E W k c t = not-both refl e
+instant-gate k_operator e τ starts first E W k c t = not-both refl e
+instant-gate k_start e τ starts first E W k c t = refl
+instant-gate k_ground e τ starts first E W k c t = refl
+instant-gate k_delay e τ starts first E W k c t = refl
+instant-gate k_or e τ starts first E W k c t = refl
+instant-gate k_when_true e τ starts first E W k c t = refl
+instant-gate k_when_false e τ starts first E W k c t = refl
+instant-gate k_merge e τ starts first E W k c t = refl
+instant-gate k_return e τ starts first E W k c t = refl
+instant-gate k_memory e τ starts first E W k c t = refl
+instant-gate k_gated e τ starts first E W k c t = refl
+instant-gate k_array e τ starts first E W k c t = refl
+instant-gate k_address e τ starts first E W k c t = refl
+instant-gate k_read e τ starts first E W k c t = not-both refl e
+instant-gate k_latch e τ starts first E W k c t = refl
+instant-gate k_unknown e τ starts first E W k c t = refl
 
 -- no control wire is an operator's
 pub control-instant : (s : Shape) → (cell_table s).row.control ≡ true → late s ≡ false
 unfolding late cell_table
-control-instant kConstant e = refl
-control-instant kComplement e = not-both e refl
-control-instant kOperator e = not-both e refl
-control-instant kStart e = refl
-control-instant kGround e = refl
-control-instant kDelay e = refl
-control-instant kOr e = refl
-control-instant kWhenTrue e = refl
-control-instant kWhenFalse e = refl
-control-instant kMerge e = refl
-control-instant kReturn e = refl
-control-instant kMemory e = refl
-control-instant kGated e = refl
-control-instant kArray e = refl
-control-instant kAddress e = refl
-control-instant kRead e = not-both e refl
-control-instant kLatch e = refl
-control-instant kUnknown e = refl
+control-instant k_constant e = refl
+control-instant k_complement e = not-both e refl
+control-instant k_operator e = not-both e refl
+control-instant k_start e = refl
+control-instant k_ground e = refl
+control-instant k_delay e = refl
+control-instant k_or e = refl
+control-instant k_when_true e = refl
+control-instant k_when_false e = refl
+control-instant k_merge e = refl
+control-instant k_return e = refl
+control-instant k_memory e = refl
+control-instant k_gated e = refl
+control-instant k_array e = refl
+control-instant k_address e = refl
+control-instant k_read e = not-both e refl
+control-instant k_latch e = refl
+control-instant k_unknown e = refl
 
 module _ (net : List Cell) (words : ℕ → ℕ) (U W : Values) (starts : Sig) (fed : (j : ℕ) → j < length net → (cell_at net j).kind ≡ 42 → Feeds net j) where
   gate-cong : (s : Shape) (τ : ℕ → ℕ) (first k : ℕ) (c : Cell) (t : ℕ) → k < length net → Looks (cell_table s).row (kinds net) (length net) k c
       → Before net words U W t k → gate τ s starts first (element net words U) U k c t ≡ gate τ s starts first (element net words W) W k c t
   unfolding gate cell_table
-  gate-cong kConstant τ first k c t l o h = shape-cong net words U W 1 starts fed kConstant first k c t l o h
-  gate-cong kComplement τ first k c t l o h =
+  gate-cong k_constant τ first k c t l o h = shape-cong net words U W 1 starts fed k_constant first k c t l o h
+  gate-cong k_complement τ first k c t l o h =
       ap (λ (x : ℕ). operate 3 x 0) (past_same (τ 3) (U c.a) (W c.a) t (upto net words U W t k l h c.a o.1.0))
-  gate-cong kOperator τ first k c t l o h =
+  gate-cong k_operator τ first k c t l o h =
       ap₂ (operate c.kind) (past_same (τ c.kind) (U c.a) (W c.a) t (upto net words U W t k l h c.a o.1.0))
       (past_same (τ c.kind) (U c.b) (W c.b) t (upto net words U W t k l h c.b o.2.0))
-  gate-cong kStart τ first k c t l o h = shape-cong net words U W 1 starts fed kStart first k c t l o h
-  gate-cong kGround τ first k c t l o h = shape-cong net words U W 1 starts fed kGround first k c t l o h
-  gate-cong kDelay τ first k c t l o h = shape-cong net words U W 1 starts fed kDelay first k c t l o h
-  gate-cong kOr τ first k c t l o h = shape-cong net words U W 1 starts fed kOr first k c t l o h
-  gate-cong kWhenTrue τ first k c t l o h = shape-cong net words U W 1 starts fed kWhenTrue first k c t l o h
-  gate-cong kWhenFalse τ first k c t l o h = shape-cong net words U W 1 starts fed kWhenFalse first k c t l o h
-  gate-cong kMerge τ first k c t l o h = shape-cong net words U W 1 starts fed kMerge first k c t l o h
-  gate-cong kReturn τ first k c t l o h = shape-cong net words U W 1 starts fed kReturn first k c t l o h
-  gate-cong kMemory τ first k c t l o h = shape-cong net words U W 1 starts fed kMemory first k c t l o h
-  gate-cong kGated τ first k c t l o h = shape-cong net words U W 1 starts fed kGated first k c t l o h
-  gate-cong kArray τ first k c t l o h = shape-cong net words U W 1 starts fed kArray first k c t l o h
-  gate-cong kAddress τ first k c t l o h = shape-cong net words U W 1 starts fed kAddress first k c t l o h
-  gate-cong kRead τ first k c t l o h =
+  gate-cong k_start τ first k c t l o h = shape-cong net words U W 1 starts fed k_start first k c t l o h
+  gate-cong k_ground τ first k c t l o h = shape-cong net words U W 1 starts fed k_ground first k c t l o h
+  gate-cong k_delay τ first k c t l o h = shape-cong net words U W 1 starts fed k_delay first k c t l o h
+  gate-cong k_or τ first k c t l o h = shape-cong net words U W 1 starts fed k_or first k c t l o h
+  gate-cong k_when_true τ first k c t l o h = shape-cong net words U W 1 starts fed k_when_true first k c t l o h
+  gate-cong k_when_false τ first k c t l o h = shape-cong net words U W 1 starts fed k_when_false first k c t l o h
+  gate-cong k_merge τ first k c t l o h = shape-cong net words U W 1 starts fed k_merge first k c t l o h
+  gate-cong k_return τ first k c t l o h = shape-cong net words U W 1 starts fed k_return first k c t l o h
+  gate-cong k_memory τ first k c t l o h = shape-cong net words U W 1 starts fed k_memory first k c t l o h
+  gate-cong k_gated τ first k c t l o h = shape-cong net words U W 1 starts fed k_gated first k c t l o h
+  gate-cong k_array τ first k c t l o h = shape-cong net words U W 1 starts fed k_array first k c t l o h
+  gate-cong k_address τ first k c t l o h = shape-cong net words U W 1 starts fed k_address first k c t l o h
+  gate-cong k_read τ first k c t l o h =
       let below : c.a < k = o.1.0 in
       past_same (τ 10) _ _ t
       (λ u lu.
       ap (λ (x : ℕ). element net words U c.a (index x) u) (upto net words U W t k l h c.b o.2.0 u lu)
       ∙ element-cong net words U W c.a (index (W c.b u)) u (fed c.a (omega arith) (eqb-true _ _ o.1.1)) (omega arith)
       (λ v lv m lm. h.0 v (omega arith) m lm) (λ m lm. upto net words U W t k l h m (omega arith) u lu))
-  gate-cong kLatch τ first k c t l o h = shape-cong net words U W 1 starts fed kLatch first k c t l o h
-  gate-cong kUnknown τ first k c t l o h = shape-cong net words U W 1 starts fed kUnknown first k c t l o h
+  gate-cong k_latch τ first k c t l o h = shape-cong net words U W 1 starts fed k_latch first k c t l o h
+  gate-cong k_unknown τ first k c t l o h = shape-cong net words U W 1 starts fed k_unknown first k c t l o h
 
 module _ (τ : ℕ → ℕ) (net : List Cell) (ors : ℕ) (o : Ordered net) (words : ℕ → ℕ) where
   slow-causal : Causal (length net) (slow_cell τ net ors words)

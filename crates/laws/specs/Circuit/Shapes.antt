@@ -5,7 +5,7 @@ use Rattle.std.proofs.Math.Bool.{and-false}
 use Rattle.std.proofs.lemmas.Bool.{lt-leb}
 use Rattle.model.specs.declared.Cell.{Cell}
 use Rattle.model.specs.Word.{pick, bit, is_zero}
-use Rattle.model.specs.Circuit.{cell_at, Netlist, Sig, pulses, Values, Elements, element, level, delayed, merge_step, return_step, merged, merges, step_of, control, equation, start_word, Obeys, Shape, CellKinds, cell_table, shapes, has_kind, shape_in, shape, kConstant, kComplement, kOperator, kStart, kGround, kDelay, kOr, kWhenTrue, kWhenFalse, kMerge, kReturn, kMemory, kGated, kArray, kAddress, kRead, kLatch, kUnknown}
+use Rattle.model.specs.Circuit.{cell_at, Netlist, Sig, pulses, Values, Elements, element, level, delayed, merge_step, return_step, merged, merges, step_of, control, equation, start_word, Obeys, Shape, CellKinds, cell_table, shapes, has_kind, shape_in, shape, k_constant, k_complement, k_operator, k_start, k_ground, k_delay, k_or, k_when_true, k_when_false, k_merge, k_return, k_memory, k_gated, k_array, k_address, k_read, k_latch, k_unknown}
 use Rattle.laws.specs.Refusals.Laws.{and-true, by_bool, by_le, not-both}
 
 -- a kind is one of its shape's, but for the shape of no kinds
@@ -29,52 +29,52 @@ only-kind k j f l = ⊎_elim (λ p. absurd (omega (arith, p, f, l))) (λ p. omeg
 kind-of : (k j : ℕ) (sh : Shape) → (cell_table sh).first ≡ j → (cell_table sh).last ≡ j → shape k ≡ sh → k ≡ j
 kind-of k j sh f l e = only-kind k j (ap (λ (x : Shape). (cell_table x).first) e ∙ f) (ap (λ (x : Shape). (cell_table x).last) e ∙ l)
 
-pub start-kind : (k : ℕ) → shape k ≡ kStart → k ≡ 32
+pub start-kind : (k : ℕ) → shape k ≡ k_start → k ≡ 32
 unfolding cell_table
-start-kind k e = kind-of k 32 kStart refl refl e
+start-kind k e = kind-of k 32 k_start refl refl e
 
-pub delay-kind : (k : ℕ) → shape k ≡ kDelay → k ≡ 34
+pub delay-kind : (k : ℕ) → shape k ≡ k_delay → k ≡ 34
 unfolding cell_table
-delay-kind k e = kind-of k 34 kDelay refl refl e
+delay-kind k e = kind-of k 34 k_delay refl refl e
 
-pub merge-kind : (k : ℕ) → shape k ≡ kMerge → k ≡ 38
+pub merge-kind : (k : ℕ) → shape k ≡ k_merge → k ≡ 38
 unfolding cell_table
-merge-kind k e = kind-of k 38 kMerge refl refl e
+merge-kind k e = kind-of k 38 k_merge refl refl e
 
-pub return-kind : (k : ℕ) → shape k ≡ kReturn → k ≡ 39
+pub return-kind : (k : ℕ) → shape k ≡ k_return → k ≡ 39
 unfolding cell_table
-return-kind k e = kind-of k 39 kReturn refl refl e
+return-kind k e = kind-of k 39 k_return refl refl e
 
-pub memory-kind : (k : ℕ) → shape k ≡ kMemory → k ≡ 40
+pub memory-kind : (k : ℕ) → shape k ≡ k_memory → k ≡ 40
 unfolding cell_table
-memory-kind k e = kind-of k 40 kMemory refl refl e
+memory-kind k e = kind-of k 40 k_memory refl refl e
 
-pub array_kind : (k : ℕ) → shape k ≡ kArray → k ≡ 42
+pub array_kind : (k : ℕ) → shape k ≡ k_array → k ≡ 42
 unfolding cell_table
-array_kind k e = kind-of k 42 kArray refl refl e
+array_kind k e = kind-of k 42 k_array refl refl e
 
-pub start-shape : (k : ℕ) → k ≡ 32 → shape k ≡ kStart
+pub start-shape : (k : ℕ) → k ≡ 32 → shape k ≡ k_start
 unfolding shape
 start-shape k e = rw e
 
-pub delay-shape : (k : ℕ) → k ≡ 34 → shape k ≡ kDelay
+pub delay-shape : (k : ℕ) → k ≡ 34 → shape k ≡ k_delay
 unfolding shape
 delay-shape k e = rw e
 
-pub merge-shape : (k : ℕ) → k ≡ 38 → shape k ≡ kMerge
+pub merge-shape : (k : ℕ) → k ≡ 38 → shape k ≡ k_merge
 unfolding shape
 merge-shape k e = rw e
 
-pub return-shape : (k : ℕ) → k ≡ 39 → shape k ≡ kReturn
+pub return-shape : (k : ℕ) → k ≡ 39 → shape k ≡ k_return
 unfolding shape
 return-shape k e = rw e
 
 -- the two merges, and what they do
-pub of-merge : (w k : ℕ) → shape k ≡ kMerge → (merges k ≡ true) × (step_of w k ≡ merge_step (eqb w 1))
+pub of-merge : (w k : ℕ) → shape k ≡ k_merge → (merges k ≡ true) × (step_of w k ≡ merge_step (eqb w 1))
 unfolding merges step_of
 of-merge w k e = rw (merge-kind k e) (refl, refl)
 
-pub of-return : (w k : ℕ) → shape k ≡ kReturn → (merges k ≡ true) × (step_of w k ≡ return_step (eqb w 1))
+pub of-return : (w k : ℕ) → shape k ≡ k_return → (merges k ≡ true) × (step_of w k ≡ return_step (eqb w 1))
 unfolding merges step_of
 of-return w k e = rw (return-kind k e) (refl, refl)
 
@@ -83,11 +83,11 @@ pub by-merge : {A : Type 0} (k : ℕ) → merges k ≡ true → (k ≡ 38 → A)
 unfolding merges
 by-merge k e p q = by_bool (eqb k 38) (λ z. p (eqb-true k 38 z)) (λ z. q (eqb-true k 39 (sym (ap (λ (b : Bool). b || eqb k 39) z) ∙ e)))
 
-pub memory-shape : (k : ℕ) → k ≡ 40 → shape k ≡ kMemory
+pub memory-shape : (k : ℕ) → k ≡ 40 → shape k ≡ k_memory
 unfolding shape
 memory-shape k e = rw e
 
-pub operator-shape : (k : ℕ) → 4 ≤ k → k ≤ 9 → shape k ≡ kOperator
+pub operator-shape : (k : ℕ) → 4 ≤ k → k ≤ 9 → shape k ≡ k_operator
 unfolding shape
 operator-shape k h g =
     rw (le-leb 1 k (omega arith), lt-leb k 1 (omega arith), le-leb 3 k (omega arith), lt-leb k 3 (omega arith), le-leb 4 k h, le-leb k 9 g) refl
@@ -101,7 +101,7 @@ apart k j n = by_le j k (λ h. outside k j j (inr (omega (arith, h, n)))) (λ h.
 
 -- a test that every line of the table passes is passed by every kind's line
 unfoldable pub all_lines : (CellKinds → Bool) → List Shape → Bool
-all_lines p [] = p (cell_table kUnknown)
+all_lines p [] = p (cell_table k_unknown)
 all_lines p (sh ∷ rest) = p (cell_table sh) && all_lines p rest
 
 lines-pass : (p : CellKinds → Bool) (k : ℕ) (shs : List Shape) → all_lines p shs ≡ true → p (cell_table (shape_in shs k)) ≡ true
@@ -129,24 +129,24 @@ bit_le false = omega arith
 shape-level : (w : ℕ) (s : Shape) (starts : Sig) (first : ℕ) (E : Elements) (W : Values) (k : ℕ) (c : Cell) (t : ℕ) → (cell_table s).row.control ≡ true
     → equation w s starts first E W k c t ≤ 1
 unfolding equation cell_table
-shape-level w kConstant starts first E W k c t e = not-both e refl
-shape-level w kComplement starts first E W k c t e = not-both e refl
-shape-level w kOperator starts first E W k c t e = not-both e refl
-shape-level w kStart starts first E W k c t e = bit_le (pulses w starts t)
-shape-level w kGround starts first E W k c t e = omega arith
-shape-level w kDelay starts first E W k c t e = bit_le (delayed c.delay (level W c.a) t)
-shape-level w kOr starts first E W k c t e = bit_le (level W c.a t || level W c.b t)
-shape-level w kWhenTrue starts first E W k c t e = bit_le (level W c.a t && not (is_zero (W c.b t)))
-shape-level w kWhenFalse starts first E W k c t e = bit_le (level W c.a t && is_zero (W c.b t))
-shape-level w kMerge starts first E W k c t e = bit_le (merged (merge_step (eqb w 1)) (level W c.a) (level W c.b) t)
-shape-level w kReturn starts first E W k c t e = bit_le (merged (return_step (eqb w 1)) (level W c.a) (level W c.b) t)
-shape-level w kMemory starts first E W k c t e = not-both e refl
-shape-level w kGated starts first E W k c t e = not-both e refl
-shape-level w kArray starts first E W k c t e = not-both e refl
-shape-level w kAddress starts first E W k c t e = not-both e refl
-shape-level w kRead starts first E W k c t e = not-both e refl
-shape-level w kLatch starts first E W k c t e = not-both e refl
-shape-level w kUnknown starts first E W k c t e = not-both e refl
+shape-level w k_constant starts first E W k c t e = not-both e refl
+shape-level w k_complement starts first E W k c t e = not-both e refl
+shape-level w k_operator starts first E W k c t e = not-both e refl
+shape-level w k_start starts first E W k c t e = bit_le (pulses w starts t)
+shape-level w k_ground starts first E W k c t e = omega arith
+shape-level w k_delay starts first E W k c t e = bit_le (delayed c.delay (level W c.a) t)
+shape-level w k_or starts first E W k c t e = bit_le (level W c.a t || level W c.b t)
+shape-level w k_when_true starts first E W k c t e = bit_le (level W c.a t && not (is_zero (W c.b t)))
+shape-level w k_when_false starts first E W k c t e = bit_le (level W c.a t && is_zero (W c.b t))
+shape-level w k_merge starts first E W k c t e = bit_le (merged (merge_step (eqb w 1)) (level W c.a) (level W c.b) t)
+shape-level w k_return starts first E W k c t e = bit_le (merged (return_step (eqb w 1)) (level W c.a) (level W c.b) t)
+shape-level w k_memory starts first E W k c t e = not-both e refl
+shape-level w k_gated starts first E W k c t e = not-both e refl
+shape-level w k_array starts first E W k c t e = not-both e refl
+shape-level w k_address starts first E W k c t e = not-both e refl
+shape-level w k_read starts first E W k c t e = not-both e refl
+shape-level w k_latch starts first E W k c t e = not-both e refl
+shape-level w k_unknown starts first E W k c t e = not-both e refl
 
 pub level-bound : (net : Netlist) (starts : Sig) (words : ℕ → ℕ) (W : Values) → Obeys net starts words W
     → (k : ℕ) → k < length net.cells → control (cell_at net.cells k).kind ≡ true → (t : ℕ) → W k t ≤ 1

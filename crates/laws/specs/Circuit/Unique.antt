@@ -13,7 +13,7 @@ use Rattle.model.specs.declared.Merged.{Merged}
 use Rattle.model.specs.Circuit.{cell_at, array_at, delayed, merged, merge_step, return_step, Step, merged_before, Sig, Values, level, memory, latch, element, Shape, cell_table, shape, cell_row, equation, start_word, Obeys, Netlist}
 use Rattle.laws.specs.Numbering.Cells.{cell_val}
 use Rattle.laws.specs.Circuit.Causal.{Alike, Causal, one}
-use Rattle.model.specs.Circuit.{kConstant, kComplement, kOperator, kStart, kGround, kDelay, kOr, kWhenTrue, kWhenFalse, kMerge, kReturn, kMemory, kGated, kArray, kAddress, kRead, kLatch, kUnknown}
+use Rattle.model.specs.Circuit.{k_constant, k_complement, k_operator, k_start, k_ground, k_delay, k_or, k_when_true, k_when_false, k_merge, k_return, k_memory, k_gated, k_array, k_address, k_read, k_latch, k_unknown}
 
 -- what the words of an array look at, if its kind 42 is cell j: clock, data and address
 abbrev pub Feeds : List Cell → ℕ → Type 0
@@ -115,30 +115,30 @@ module _ (net : List Cell) (words : ℕ → ℕ) (U W : Values) where
     pub shape-cong : (s : Shape) (first k : ℕ) (c : Cell) (t : ℕ) → k < length net → Looks (cell_table s).row (kinds net) (length net) k c → Before t k
         → equation w s starts first (element net words U) U k c t ≡ equation w s starts first (element net words W) W k c t
     unfolding equation cell_table
-    shape-cong kConstant first k c t l o h = refl
-    shape-cong kComplement first k c t l o h = ap (λ (x : ℕ). operate 3 x 0) (h.1 c.a o.1.0)
-    shape-cong kOperator first k c t l o h = ap₂ (λ (x y : ℕ). operate c.kind x y) (h.1 c.a o.1.0) (h.1 c.b o.2.0)
-    shape-cong kStart first k c t l o h = refl
-    shape-cong kGround first k c t l o h = refl
-    shape-cong kDelay first k c t l o h = ap bit (delayed-here c.delay c.a t o.0.0 (λ u lu. h.0 u lu c.a o.1.0))
-    shape-cong kOr first k c t l o h = ap₂ (λ (x y : ℕ). bit (eqb x 1 || eqb y 1)) (h.1 c.a o.1.0) (h.1 c.b o.2.0)
-    shape-cong kWhenTrue first k c t l o h = ap₂ (λ (x y : ℕ). bit (eqb x 1 && not (eqb y 0))) (h.1 c.a o.1.0) (h.1 c.b o.2.0)
-    shape-cong kWhenFalse first k c t l o h = ap₂ (λ (x y : ℕ). bit (eqb x 1 && eqb y 0)) (h.1 c.a o.1.0) (h.1 c.b o.2.0)
-    shape-cong kMerge first k c t l o h =
+    shape-cong k_constant first k c t l o h = refl
+    shape-cong k_complement first k c t l o h = ap (λ (x : ℕ). operate 3 x 0) (h.1 c.a o.1.0)
+    shape-cong k_operator first k c t l o h = ap₂ (λ (x y : ℕ). operate c.kind x y) (h.1 c.a o.1.0) (h.1 c.b o.2.0)
+    shape-cong k_start first k c t l o h = refl
+    shape-cong k_ground first k c t l o h = refl
+    shape-cong k_delay first k c t l o h = ap bit (delayed-here c.delay c.a t o.0.0 (λ u lu. h.0 u lu c.a o.1.0))
+    shape-cong k_or first k c t l o h = ap₂ (λ (x y : ℕ). bit (eqb x 1 || eqb y 1)) (h.1 c.a o.1.0) (h.1 c.b o.2.0)
+    shape-cong k_when_true first k c t l o h = ap₂ (λ (x y : ℕ). bit (eqb x 1 && not (eqb y 0))) (h.1 c.a o.1.0) (h.1 c.b o.2.0)
+    shape-cong k_when_false first k c t l o h = ap₂ (λ (x y : ℕ). bit (eqb x 1 && eqb y 0)) (h.1 c.a o.1.0) (h.1 c.b o.2.0)
+    shape-cong k_merge first k c t l o h =
         ap bit (merged-cong (merge_step (eqb w 1)) c.a c.b t (upto t k l h c.a o.1.0) (upto t k l h c.b o.2.0))
-    shape-cong kReturn first k c t l o h =
+    shape-cong k_return first k c t l o h =
         ap bit (merged-cong (return_step (eqb w 1)) c.a c.b t (upto t k l h c.a o.1.0) (upto t k l h c.b o.2.0))
-    shape-cong kMemory first k c t l o h = mem-cong first t k c l o.1.0 o.2.0 h
-    shape-cong kGated first k c t l o h = ap₂ (λ (x y : ℕ). pick (eqb x 1) y 0) (h.1 c.a o.1.0) (h.1 c.b o.2.0)
-    shape-cong kArray first k c t l o h = refl
-    shape-cong kAddress first k c t l o h = refl
-    shape-cong kRead first k c t l o h =
+    shape-cong k_memory first k c t l o h = mem-cong first t k c l o.1.0 o.2.0 h
+    shape-cong k_gated first k c t l o h = ap₂ (λ (x y : ℕ). pick (eqb x 1) y 0) (h.1 c.a o.1.0) (h.1 c.b o.2.0)
+    shape-cong k_array first k c t l o h = refl
+    shape-cong k_address first k c t l o h = refl
+    shape-cong k_read first k c t l o h =
         let below : c.a < k = o.1.0 in
         ap (λ (x : ℕ). element net words U c.a (index x) t) (h.1 c.b o.2.0)
         ∙ element-cong c.a (index (W c.b t)) t (fed c.a (omega arith) (eqb-true _ _ o.1.1)) (omega arith) h.0
         (λ m lm. h.1 m (omega arith))
-    shape-cong kLatch first k c t l o h = latch-cong t k c l o.1.0 o.2.0 h
-    shape-cong kUnknown first k c t l o h = refl
+    shape-cong k_latch first k c t l o h = latch-cong t k c l o.1.0 o.2.0 h
+    shape-cong k_unknown first k c t l o h = refl
 
     pub cell-cong : (first k : ℕ) (c : Cell) (t : ℕ) → k < length net → Looks (cell_row c.kind) (kinds net) (length net) k c → Before t k
         → cell_val w starts first (element net words U) U k c t ≡ cell_val w starts first (element net words W) W k c t

@@ -80,75 +80,75 @@ cells-in-bytes cs =
 
 -- The two calls ------------------------------------------------------------------------------------------------------------------------
 
-module _ (w : ℕ) (cells forFile forCells : List ℕ) (f n g : ℕ) (bytes : Bytes cells) (done : (write_call w cells f forFile).answer ≡ Done n g) where
+module _ (w : ℕ) (cells for_file for_cells : List ℕ) (f n g : ℕ) (bytes : Bytes cells) (done : (write_call w cells f for_file).answer ≡ Done n g) where
   abbrev net : List Cell
   net = cells_in cells
 
-  written : Wrote (first (write_checks w cells f forFile)) (file_of w net f) (length (file_of w net f)) f forFile n g
+  written : Wrote (first (write_checks w cells f for_file)) (file_of w net f) (length (file_of w net f)) f for_file n g
   unfolding write_call
-  written = wrote (first (write_checks w cells f forFile)) (file_of w net f) (length (file_of w net f)) f forFile n g done
+  written = wrote (first (write_checks w cells f for_file)) (file_of w net f) (length (file_of w net f)) f for_file n g done
 
   counted : (length cells % 6 ≡ 0) × (count_wrong (blocks_for (length net)) (length net) f ≡ false)
   counted =
       let c = count_wrong (blocks_for (length net)) (length net) f in
-      let p = or-false (ltb 0 (length cells % 6)) c (refuse-unless (ltb 0 (length cells % 6) || c) 11 0 (all-accept (write_checks w cells f forFile) written.accepted 1)) in
+      let p = or-false (ltb 0 (length cells % 6)) c (refuse-unless (ltb 0 (length cells % 6) || c) 11 0 (all-accept (write_checks w cells f for_file) written.accepted 1)) in
       (omega (arith, ltb-false 0 (length cells % 6) p.0), p.1)
 
   right : pulse_wrong w ≡ false
-  right = refuse-unless (pulse_wrong w) 27 0 (all-accept (write_checks w cells f forFile) written.accepted 0)
+  right = refuse-unless (pulse_wrong w) 27 0 (all-accept (write_checks w cells f for_file) written.accepted 0)
 
   kept : net_check net f ≡ Accepted
-  kept = all-accept (write_checks w cells f forFile) written.accepted 2
+  kept = all-accept (write_checks w cells f for_file) written.accepted 2
 
-  file-is : take n (write_call w cells f forFile).lent ≡ file_of w net f
+  file-is : take n (write_call w cells f for_file).lent ≡ file_of w net f
   unfolding write_call
   file-is =
-      ap₂ (λ (k : ℕ) (r : Returned Written). take k r.lent) written.count written.told ∙ take-append_seam (file_of w net f) (drop (length (file_of w net f)) forFile)
+      ap₂ (λ (k : ℕ) (r : Returned Written). take k r.lent) written.count written.told ∙ take-append_seam (file_of w net f) (drop (length (file_of w net f)) for_file)
 
-  pub read_back : length cells ≤ length forCells →
-      let file = take n (write_call w cells f forFile).lent in
-      (read_call file forCells ≡ record { answer = Done (length cells / 6) f; lent = overwrite cells forCells }) × (pulse_of file ≡ w)
+  pub read_back : length cells ≤ length for_cells →
+      let file = take n (write_call w cells f for_file).lent in
+      (read_call file for_cells ≡ record { answer = Done (length cells / 6) f; lent = overwrite cells for_cells }) × (pulse_of file ≡ w)
   unfolding read_call writing
   read_back room =
       let some = some-cells w right net f counted.1 kept in
       let m = length-cells in_list cells 0 (length cells / 6) in
       let k : count_of (file_of w net f) ≡ length cells / 6 = count-written w net f some ∙ m in
-      let r : ltb (length forCells) (6 * (length cells / 6)) ≡ false = le-ltb (length forCells) (6 * (length cells / 6)) (omega arith) in (
+      let r : ltb (length for_cells) (6 * (length cells / 6)) ≡ false = le-ltb (length for_cells) (6 * (length cells / 6)) (omega arith) in (
         rw (file-is, file-accepted w right net f counted.1 kept, k, r, finish-written w net f some, cells-written w net f some, cells_same cells bytes counted.0),
         ap (λ (s : List ℕ). pulse_of s) file-is ∙ pulse-written w net f some (pulse-right w right).0,
       )
 
-module _ (file forCells forFile : List ℕ) (n f : ℕ) (bytes : Bytes file) (done : (read_call file forCells).answer ≡ Done n f) where
+module _ (file for_cells for_file : List ℕ) (n f : ℕ) (bytes : Bytes file) (done : (read_call file for_cells).answer ≡ Done n f) where
   abbrev cs : List Cell
   cs = cells_of file
 
-  r : Wrote (first (read_checks file forCells)) (cell_bytes cs) (count_of file) (finish_of file) forCells n f
+  r : Wrote (first (read_checks file for_cells)) (cell_bytes cs) (count_of file) (finish_of file) for_cells n f
   unfolding read_call
-  r = wrote (first (read_checks file forCells)) (cell_bytes cs) (count_of file) (finish_of file) forCells n f done
+  r = wrote (first (read_checks file for_cells)) (cell_bytes cs) (count_of file) (finish_of file) for_cells n f done
 
   accepted : file_check file ≡ Accepted
-  accepted = all-accept (read_checks file forCells) r.accepted 0
+  accepted = all-accept (read_checks file for_cells) r.accepted 0
 
-  cells-are-read : take (6 * n) (read_call file forCells).lent ≡ cell_bytes cs
+  cells-are-read : take (6 * n) (read_call file for_cells).lent ≡ cell_bytes cs
   unfolding read_call
   cells-are-read =
       let e : 6 * n ≡ length (cell_bytes cs) = omega (arith, bytes-length cs, count-cells file, r.count) in
-      ap₂ (λ (k : ℕ) (t : Returned Written). take k t.lent) e r.told ∙ take-append_seam (cell_bytes cs) (drop (length (cell_bytes cs)) forCells)
+      ap₂ (λ (k : ℕ) (t : Returned Written). take k t.lent) e r.told ∙ take-append_seam (cell_bytes cs) (drop (length (cell_bytes cs)) for_cells)
 
-  pub write-back : length file ≤ length forFile
-      → write_call (pulse_of file) (take (6 * n) (read_call file forCells).lent) f forFile ≡ record { answer = Done (length file) f; lent = overwrite file forFile }
+  pub write-back : length file ≤ length for_file
+      → write_call (pulse_of file) (take (6 * n) (read_call file for_cells).lent) f for_file ≡ record { answer = Done (length file) f; lent = overwrite file for_file }
   unfolding write_call writing
   write-back room =
       let p = file-passed file accepted in
       let six : length (cell_bytes cs) % 6 ≡ 0 = omega (arith, bytes-length cs) in
       let blocks = (count-range _ _ _ p.count).2 in
       let c : count_wrong (blocks_for (count_of file)) (count_of file) (finish_of file) ≡ false = rw (← blocks) p.count in
-      let room_for : ltb (length forFile) (length file) ≡ false = le-ltb _ _ room in
+      let room_for : ltb (length for_file) (length file) ≡ false = le-ltb _ _ room in
       rw (cells-are-read, p.pulse, r.finish, cells-in-bytes cs, six, count-cells file, c, p.cells, file-back file bytes accepted, room_for)
 
 pub same-file : SameFile
 same-file =
     record {
-      read = λ w cells forFile forCells f n g y e. read_back w cells forFile forCells f n g y e;
-      written = λ file forCells forFile n f y e. write-back file forCells forFile n f y e;
+      read = λ w cells for_file for_cells f n g y e. read_back w cells for_file for_cells f n g y e;
+      written = λ file for_cells for_file n f y e. write-back file for_cells for_file n f y e;
     }

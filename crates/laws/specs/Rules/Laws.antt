@@ -5,7 +5,7 @@ use Rattle.std.proofs.Common.{sym, ◌∙◌, ap, ap₂, subst, arith, le-leb}
 use Rattle.std.proofs.lemmas.Bool.{lt-leb}
 use Rattle.model.specs.Word.{is_zero, element_word}
 use Rattle.model.specs.Program.{Expr, Stmt, ok, tick, assign, assign_elem, seq, par, ite, while, repeat, loop, exit, call}
-use Rattle.model.specs.Rules.{Costs, extended, postponed, Store, Way, atEnd, at_exit, Run, done, ended, left, still, after, wait, chain, both, caught, kept, whiles, repeats, loops, run, eval, put}
+use Rattle.model.specs.Rules.{Costs, extended, postponed, Store, Way, at_end, at_exit, Run, done, ended, left, still, after, wait, chain, both, caught, kept, whiles, repeats, loops, run, eval, put}
 use Rattle.laws.specs.Refusals.Laws.{by_bool, by_le}
 use Rattle.laws.specs.Program.Fit.{Timed}
 
@@ -21,7 +21,7 @@ done-words p = cc
 pub done-still : {A : Type 0} {w : Way} {t : ℕ} {σ : Store} → done w t σ ≡ still → A
 done-still p = let z : ◌≡◌ {A = ℕ} 0 1 = cc in absurd (omega arith)
 
-pub not-way : {A : Type 0} → atEnd ≡ at_exit → A
+pub not-way : {A : Type 0} → at_end ≡ at_exit → A
 not-way p = let z : ◌≡◌ {A = ℕ} 0 1 = cc in absurd (omega arith)
 
 -- The parts of a run --------------------------------------------------------------------------------------------------------------
@@ -50,7 +50,7 @@ by-run still p q = q refl
 
 -- the three outcomes
 pub by_runs : {A : Type 0} (r : Run) → ((t : ℕ) (σ : Store) → r ≡ ended t σ → A) → ((t : ℕ) (σ : Store) → r ≡ left t σ → A) → (r ≡ still → A) → A
-by_runs (done atEnd t σ) p q s = p t σ refl
+by_runs (done at_end t σ) p q s = p t σ refl
 by_runs (done at_exit t σ) p q s = q t σ refl
 by_runs still p q s = s refl
 
@@ -73,7 +73,7 @@ pub chain-done : {A : Type 0} (r : Run) (c : ℕ → Store → Run) {w : Way} {t
     → ((t₁ : ℕ) (σ₁ : Store) (t₂ : ℕ) → r ≡ ended t₁ σ₁ → c t₁ σ₁ ≡ done w t₂ σ → t ≡ t₁ + t₂ → A)
     → (w ≡ at_exit → r ≡ left t σ → A) → A
 unfolding chain
-chain-done (done atEnd t₁ σ₁) c p f g = let q = after-done t₁ (c t₁ σ₁) p in f t₁ σ₁ q.0 refl q.1 q.2
+chain-done (done at_end t₁ σ₁) c p f g = let q = after-done t₁ (c t₁ σ₁) p in f t₁ σ₁ q.0 refl q.1 q.2
 chain-done (done at_exit t₁ σ₁) c p f g = g (sym (done-way p)) (ap₂ (λ (t : ℕ) (σ : Store). left t σ) (done-time p) (done-words p))
 chain-done still c p f g = done-still (sym p)
 
@@ -95,11 +95,11 @@ unfolding chain
 chain-out r c e = ap (λ (q : Run). chain q c) e
 
 pub both-done : (j : Store → Store → Store) (r r' : Run) {w : Way} {t : ℕ} {σ : Store} → both j r r' ≡ done w t σ
-    → (t₁ : ℕ) × (σ₁ : Store) × (t₂ : ℕ) × (σ₂ : Store) × (r ≡ ended t₁ σ₁) × (r' ≡ ended t₂ σ₂) × (t ≡ max t₁ t₂) × (σ ≡ j σ₁ σ₂) × (w ≡ atEnd)
+    → (t₁ : ℕ) × (σ₁ : Store) × (t₂ : ℕ) × (σ₂ : Store) × (r ≡ ended t₁ σ₁) × (r' ≡ ended t₂ σ₂) × (t ≡ max t₁ t₂) × (σ ≡ j σ₁ σ₂) × (w ≡ at_end)
 unfolding both
-both-done j (done atEnd t₁ σ₁) (done atEnd t₂ σ₂) p = (t₁, σ₁, t₂, σ₂, refl, refl, sym (done-time p), sym (done-words p), sym (done-way p))
-both-done j (done atEnd t₁ σ₁) (done at_exit t₂ σ₂) p = done-still (sym p)
-both-done j (done atEnd t₁ σ₁) still p = done-still (sym p)
+both-done j (done at_end t₁ σ₁) (done at_end t₂ σ₂) p = (t₁, σ₁, t₂, σ₂, refl, refl, sym (done-time p), sym (done-words p), sym (done-way p))
+both-done j (done at_end t₁ σ₁) (done at_exit t₂ σ₂) p = done-still (sym p)
+both-done j (done at_end t₁ σ₁) still p = done-still (sym p)
 both-done j (done at_exit t₁ σ₁) r p = done-still (sym p)
 both-done j still r p = done-still (sym p)
 
@@ -112,13 +112,13 @@ both_of j r r' e e' = ap₂ (both j) e e'
 pub both-still : {A : Type 0} (j : Store → Store → Store) (r r' : Run) → both j r r' ≡ still
     → ((t : ℕ) (σ : Store) → r ≡ left t σ → A) → ((t : ℕ) (σ : Store) → r' ≡ left t σ → A) → (r ≡ still → A) → (r' ≡ still → A) → A
 unfolding both
-both-still j (done atEnd t₁ σ₁) (done atEnd t₂ σ₂) p l l' x y = done-still p
-both-still j (done atEnd t₁ σ₁) (done at_exit t₂ σ₂) p l l' x y = l' t₂ σ₂ refl
-both-still j (done atEnd t₁ σ₁) still p l l' x y = y refl
+both-still j (done at_end t₁ σ₁) (done at_end t₂ σ₂) p l l' x y = done-still p
+both-still j (done at_end t₁ σ₁) (done at_exit t₂ σ₂) p l l' x y = l' t₂ σ₂ refl
+both-still j (done at_end t₁ σ₁) still p l l' x y = y refl
 both-still j (done at_exit t₁ σ₁) r p l l' x y = l t₁ σ₁ refl
 both-still j still r p l l' x y = x refl
 
-pub caught-done : (r : Run) {w : Way} {t : ℕ} {σ : Store} → caught r ≡ done w t σ → (w' : Way) × (r ≡ done w' t σ) × (w ≡ atEnd)
+pub caught-done : (r : Run) {w : Way} {t : ℕ} {σ : Store} → caught r ≡ done w t σ → (w' : Way) × (r ≡ done w' t σ) × (w ≡ at_end)
 unfolding caught
 caught-done (done w' t₁ σ₁) p = (w', ap₂ (λ (t : ℕ) (σ : Store). done w' t σ) (done-time p) (done-words p), sym (done-way p))
 caught-done still p = done-still (sym p)
@@ -244,7 +244,7 @@ steady-chain : (c : ℕ → Run) (c' : ℕ → Store → Run) → Steady c → (
 steady-chain c c' h h' k w t σ p =
     chain-done (c k) (λ t σ₁. c' (k - t) σ₁) p
     (λ t₁ σ₁ t₂ q q₁ q₂.
-    let i = h k atEnd t₁ σ₁ q in
+    let i = h k at_end t₁ σ₁ q in
     let i' = h' σ₁ (k - t₁) w t₂ σ q₁ in (
       omega (arith, i.0, i'.0),
       λ k' l.
@@ -260,8 +260,8 @@ steady-chain c c' h h' k w t σ p =
 steady-both : (j : Store → Store → Store) (c c' : ℕ → Run) → Steady c → Steady c' → Steady (λ k. both j (c k) (c' k))
 steady-both j c c' h h' k w t σ p =
     let v = both-done j (c k) (c' k) p in
-    let i = h k atEnd v.0 v.1 v.4 in
-    let i' = h' k atEnd v.2 v.3 v.5 in (
+    let i = h k at_end v.0 v.1 v.4 in
+    let i' = h' k at_end v.2 v.3 v.5 in (
       omega (arith, v.6, i.0, i'.0),
       λ k' l.
           at-way _
@@ -293,7 +293,7 @@ module _ (body : Body) (d : ℕ) (pos : 1 ≤ d) (h : (σ : Store) → Steady (�
   turns-settle c cs is n k w t σ σ' r p =
       chain-done (body k σ) (λ t σ₁. c n (k - t) σ₁) p
       (λ t₁ σ₁ t₂ q q₁ q₂.
-      let i = h σ k atEnd t₁ σ₁ q in
+      let i = h σ k at_end t₁ σ₁ q in
       let j = r (k - t₁) w t₂ σ₁ σ' q₁ in (
         omega (arith, i.0, j.0),
         λ n' k' l b.
@@ -318,7 +318,7 @@ module _ (body : Body) (d : ℕ) (pos : 1 ≤ d) (h : (σ : Store) → Steady (�
     whiles-stops : (n k : ℕ) (w : Way) (t : ℕ) (σ σ' : Store) → is_zero (eval e σ) ≡ true → whiles body d e (suc n) k σ ≡ done w t σ'
         → Settles (whiles body d e) k w t σ σ'
     whiles-stops n k w t σ σ' z p =
-        let i = steady-wait d (λ k. ended 0 σ) (steady-end atEnd σ) k w t σ' (sym (whiles-stop body d e n k σ z) ∙ p) in (
+        let i = steady-wait d (λ k. ended 0 σ) (steady-end at_end σ) k w t σ' (sym (whiles-stop body d e n k σ z) ∙ p) in (
           i.0,
           λ n' k' l b.
               let q : suc (n' - 1) ≡ n' = omega arith in
@@ -339,7 +339,7 @@ module _ (body : Body) (d : ℕ) (pos : 1 ≤ d) (h : (σ : Store) → Steady (�
         ∙ at-time _ (wait-of d k' (λ k₁. chain (body k₁ σ) (rest (n' - 1) k₁)) o x) y) in
         chain-done (body (k - d) σ) (rest n (k - d)) v.2
         (λ t₁ σ₁ t₂ q q₁ q₂.
-        let i = h σ (k - d) atEnd t₁ σ₁ q in
+        let i = h σ (k - d) at_end t₁ σ₁ q in
         let j = ih (k - d - t₁) w t₂ σ₁ σ' q₁ in (
           omega (arith, v.1, v.3, i.0, j.0),
           λ n' k' l b.
@@ -379,7 +379,7 @@ module _ (body : Body) (d : ℕ) (pos : 1 ≤ d) (h : (σ : Store) → Steady (�
               v.3,
         ))
         (λ z.
-        let i = steady-wait d (λ k. ended 0 σ) (steady-end atEnd σ) k w t σ' (sym (again-stop body d e n k σ z) ∙ p) in
+        let i = steady-wait d (λ k. ended 0 σ) (steady-end at_end σ) k w t σ' (sym (again-stop body d e n k σ z) ∙ p) in
         (i.0, λ n' k' l b. again-stop body d e n' k' σ z ∙ i.1 k' l))
 
     steady-repeats : (n : ℕ) → Steadies (repeats body d e) n
@@ -432,12 +432,12 @@ steady-postponed (suc n) body h σ = steady-wait (suc n) (λ k. body k σ) (h σ
 -- A larger budget changes nothing once a run is done
 pub steady : (κ : Costs) (P : Stmt) → Timed P → (σ : Store) → Steady (λ k. run κ k P σ)
 unfolding run
-steady κ ok h σ = steady-end atEnd σ
-steady κ (tick d) h σ = steady-wait d (λ k. ended 0 σ) (steady-end atEnd σ)
-steady κ (assign d x e) h σ = steady-wait (d + κ.write) (λ k. ended 0 (put σ x (eval e σ))) (steady-end atEnd (put σ x (eval e σ)))
+steady κ ok h σ = steady-end at_end σ
+steady κ (tick d) h σ = steady-wait d (λ k. ended 0 σ) (steady-end at_end σ)
+steady κ (assign d x e) h σ = steady-wait (d + κ.write) (λ k. ended 0 (put σ x (eval e σ))) (steady-end at_end (put σ x (eval e σ)))
 steady κ (assign_elem d j i e) h σ =
     let σ' = put σ (element_word j (eval i σ)) (eval e σ) in
-    steady-wait (d + κ.write) (λ k. ended 0 σ') (steady-end atEnd σ')
+    steady-wait (d + κ.write) (λ k. ended 0 σ') (steady-end at_end σ')
 steady κ (seq P Q) h σ = steady-chain (λ k. run κ k P σ) (λ k σ. run κ k Q σ) (steady κ P h.0 σ) (steady κ Q h.1)
 steady κ (par P Q) h σ = steady-both (kept P Q σ) (λ k. run κ k P σ) (λ k. run κ k Q σ) (steady κ P h.0 σ) (steady κ Q h.1 σ)
 steady κ (ite d e P Q) h σ = steady-ite κ d e P Q σ (steady κ P h.2 σ) (steady κ Q h.3 σ)

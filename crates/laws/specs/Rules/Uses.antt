@@ -6,7 +6,7 @@ use Rattle.std.proofs.Common.{sym, ◌∙◌, ap, ap₂, ⊎_elim, eq-eqb}
 use Rattle.std.proofs.Math.Bool.{or-true}
 use Rattle.model.specs.Word.{pick, operate, is_zero, element_word}
 use Rattle.model.specs.Program.{Expr, const, var, compl, op, elem, Stmt, ok, tick, assign, assign_elem, seq, par, ite, while, repeat, loop, exit, array_var, reads, writes, touches, call}
-use Rattle.model.specs.Rules.{Costs, extended, Postponed, postponed, Store, Course, WhileLeaves, RepeatLeaves, Ends, Leaves, Way, atEnd, at_exit, Run, done, ended, left, chain, over, kept, whiles, repeats, loops, run, owner, eval, put}
+use Rattle.model.specs.Rules.{Costs, extended, Postponed, postponed, Store, Course, WhileLeaves, RepeatLeaves, Ends, Leaves, Way, at_end, at_exit, Run, done, ended, left, chain, over, kept, whiles, repeats, loops, run, owner, eval, put}
 use Rattle.laws.specs.Program.Fit.{FormedExpr, Formed, Apart, exits}
 use Rattle.laws.specs.Refusals.Laws.{by_bool, or-false, not-both}
 use Rattle.laws.specs.Rules.Words.{owner-variable, owner-element, other-variable, other-element}
@@ -38,7 +38,7 @@ postponed-comes G zero body h k w t σ σ' p = h k w t σ σ' p
 postponed-comes G (suc n) body h k w t σ σ' p = let v = wait-done (suc n) k (λ k₁. body k₁ σ) p in h (k - suc n) w v.0 σ σ' v.2
 
 -- G is kept by going on where another run ended
-module _ (G : Store → Way → Store → Type 0) (join : (σ σ₁ σ₂ : Store) (w : Way) → G σ atEnd σ₁ → G σ₁ w σ₂ → G σ w σ₂) (stay : (σ : Store) → G σ atEnd σ) where
+module _ (G : Store → Way → Store → Type 0) (join : (σ σ₁ σ₂ : Store) (w : Way) → G σ at_end σ₁ → G σ₁ w σ₂ → G σ w σ₂) (stay : (σ : Store) → G σ at_end σ) where
   stays : (σ : Store) {w : Way} {t t' : ℕ} {σ₁ σ' : Store} → σ₁ ≡ σ → ended t σ₁ ≡ done w t' σ' → G σ w σ'
   stays σ e p = rw (← (done-way p), ← (done-words p), e) (stay σ)
 
@@ -46,7 +46,7 @@ module _ (G : Store → Way → Store → Type 0) (join : (σ σ₁ σ₂ : Stor
       → ((w : Way) (t : ℕ) (σ₁ : Store) → r ≡ done w t σ₁ → G σ w σ₁)
       → ((t₁ : ℕ) (σ₁ : Store) (t₂ : ℕ) → c t₁ σ₁ ≡ done w t₂ σ' → G σ₁ w σ') → G σ w σ'
   chain-comes r c {w} {t} σ {σ'} p h g =
-      chain-done r c p (λ t₁ σ₁ t₂ q q₁ q₂. join σ σ₁ σ' w (h atEnd t₁ σ₁ q) (g t₁ σ₁ t₂ q₁)) (λ z q. rw z (h at_exit t σ' q))
+      chain-done r c p (λ t₁ σ₁ t₂ q q₁ q₂. join σ σ₁ σ' w (h at_end t₁ σ₁ q) (g t₁ σ₁ t₂ q₁)) (λ z q. rw z (h at_exit t σ' q))
 
   module _ (body : Body) (d : ℕ) (h : Comes G body) where
     whiles-comes : (e : Expr) (n : ℕ) → Comes G (whiles body d e n)
@@ -98,7 +98,7 @@ kept_same : (P Q : Stmt) (σ σ₁ σ₂ : Store) (x : ℕ) → writes P (owner 
 unfolding kept over
 kept_same P Q σ σ₁ σ₂ x p q = ap₂ (λ (b c : Bool). pick b (σ₁ x) (pick c (σ₂ x) (σ x))) p q
 
-same-join : (x : ℕ) (σ σ₁ σ₂ : Store) (w : Way) → Same x σ atEnd σ₁ → Same x σ₁ w σ₂ → Same x σ w σ₂
+same-join : (x : ℕ) (σ σ₁ σ₂ : Store) (w : Way) → Same x σ at_end σ₁ → Same x σ₁ w σ₂ → Same x σ w σ₂
 same-join x σ σ₁ σ₂ w p q = q ∙ p
 
 at-word : {w w' : Way} {t t' : ℕ} {σ σ' : Store} (x : ℕ) → done w t σ ≡ done w' t' σ' → σ' x ≡ σ x
@@ -138,9 +138,9 @@ unwritten κ (call _ none) f x u = elim none [ ]
 -- What has no exit ends or goes on ------------------------------------------------------------------------------------------------------
 
 abbrev Only : Store → Way → Store → Type 0
-Only σ w σ' = w ≡ atEnd
+Only σ w σ' = w ≡ at_end
 
-only-join : (σ σ₁ σ₂ : Store) (w : Way) → Only σ atEnd σ₁ → Only σ₁ w σ₂ → Only σ w σ₂
+only-join : (σ σ₁ σ₂ : Store) (w : Way) → Only σ at_end σ₁ → Only σ₁ w σ₂ → Only σ w σ₂
 only-join σ σ₁ σ₂ w p q = q
 
 pub only-ends : (κ : Costs) (P : Stmt) → exits P ≡ false → Comes Only (λ k σ. run κ k P σ)

@@ -15,7 +15,7 @@ use Rattle.model.specs.declared.Merge.{Merge}
 use Rattle.model.specs.declared.Format.{Format}
 use Rattle.model.specs.declared.Format.TheVariants.{Full, Compact}
 use Rattle.model.specs.Word.{bit, get16, get32, put32}
-use Rattle.model.specs.Circuit.{cell_at, Netlist, high, remaining_step, merges, step_of, Shape, shape, kConstant, kComplement, kOperator, kStart, kGround, kDelay, kOr, kWhenTrue, kWhenFalse, kMerge, kReturn, kMemory, kGated, kArray, kAddress, kRead, kLatch, kUnknown}
+use Rattle.model.specs.Circuit.{cell_at, Netlist, high, remaining_step, merges, step_of, Shape, shape, k_constant, k_complement, k_operator, k_start, k_ground, k_delay, k_or, k_when_true, k_when_false, k_merge, k_return, k_memory, k_gated, k_array, k_address, k_read, k_latch, k_unknown}
 use Rattle.laws.specs.Program.Trees.{by-pick}
 use Rattle.laws.specs.Circuit.Shapes.{by-merge}
 use Rattle.model.specs.State.{instant_of, up_to, cell_size, base, now_at, before_at, fallen, held_at, line_bit, taken_in, remaining_byte, remaining_at, value, first_value, aged, stored, shown, holding, settle, settled, counted, blank, evaluate, begin_state, step_state}
@@ -67,24 +67,24 @@ module _ (F : Format) where
 
   pub settle-frame : (w : ℕ) (sh : Shape) (t : List ℕ) (k : ℕ) (c : Cell) (j : ℕ) → (j < base F k + 4) ⊎ (base F k + cell_size F ≤ j) → get_or (settle F w sh t k c) j 0 ≡ get_or t j 0
   unfolding settle
-  settle-frame w kConstant t k c j h = refl
-  settle-frame w kComplement t k c j h = refl
-  settle-frame w kOperator t k c j h = refl
-  settle-frame w kStart t k c j h = get_or-set_other t (remaining_byte F k) j _ 0 (λ e. ⊎_elim (λ x. omega (arith, remaining-from F k)) (λ x. omega (arith, remaining-within F k)) h)
-  settle-frame w kGround t k c j h = refl
-  settle-frame w kDelay t k c j h = taken-frame t k c.delay _ F j (⊎_elim (λ x. inl (omega arith)) inr h)
-  settle-frame w kOr t k c j h = refl
-  settle-frame w kWhenTrue t k c j h = refl
-  settle-frame w kWhenFalse t k c j h = refl
-  settle-frame w kMerge t k c j h = holding-frame t k _ j (⊎_elim (λ x. inl x) (λ x. inr (omega (arith, least F))) h)
-  settle-frame w kReturn t k c j h = holding-frame t k _ j (⊎_elim (λ x. inl x) (λ x. inr (omega (arith, least F))) h)
-  settle-frame w kMemory t k c j h = refl
-  settle-frame w kGated t k c j h = refl
-  settle-frame w kArray t k c j h = refl
-  settle-frame w kAddress t k c j h = refl
-  settle-frame w kRead t k c j h = refl
-  settle-frame w kLatch t k c j h = refl
-  settle-frame w kUnknown t k c j h = refl
+  settle-frame w k_constant t k c j h = refl
+  settle-frame w k_complement t k c j h = refl
+  settle-frame w k_operator t k c j h = refl
+  settle-frame w k_start t k c j h = get_or-set_other t (remaining_byte F k) j _ 0 (λ e. ⊎_elim (λ x. omega (arith, remaining-from F k)) (λ x. omega (arith, remaining-within F k)) h)
+  settle-frame w k_ground t k c j h = refl
+  settle-frame w k_delay t k c j h = taken-frame t k c.delay _ F j (⊎_elim (λ x. inl (omega arith)) inr h)
+  settle-frame w k_or t k c j h = refl
+  settle-frame w k_when_true t k c j h = refl
+  settle-frame w k_when_false t k c j h = refl
+  settle-frame w k_merge t k c j h = holding-frame t k _ j (⊎_elim (λ x. inl x) (λ x. inr (omega (arith, least F))) h)
+  settle-frame w k_return t k c j h = holding-frame t k _ j (⊎_elim (λ x. inl x) (λ x. inr (omega (arith, least F))) h)
+  settle-frame w k_memory t k c j h = refl
+  settle-frame w k_gated t k c j h = refl
+  settle-frame w k_array t k c j h = refl
+  settle-frame w k_address t k c j h = refl
+  settle-frame w k_read t k c j h = refl
+  settle-frame w k_latch t k c j h = refl
+  settle-frame w k_unknown t k c j h = refl
 
   pub settled-frame : (c : Netlist) (t : List ℕ) (k j : ℕ) → (j < base F k + 4) ⊎ (base F k + cell_size F ≤ j) → get_or (settled F c t k) j 0 ≡ get_or t j 0
   settled-frame c t k j h = settle-frame c.pulse (shape_at c k) t k (cell_at c.cells k) j h
@@ -95,24 +95,24 @@ module _ (F : Format) where
 
   length-settle : (w : ℕ) (sh : Shape) (t : List ℕ) (k : ℕ) (c : Cell) → length (settle F w sh t k c) ≡ length t
   unfolding settle
-  length-settle w kConstant t k c = refl
-  length-settle w kComplement t k c = refl
-  length-settle w kOperator t k c = refl
-  length-settle w kStart t k c = length-set t (remaining_byte F k) _
-  length-settle w kGround t k c = refl
-  length-settle w kDelay t k c = length_taken t k c.delay _ F
-  length-settle w kOr t k c = refl
-  length-settle w kWhenTrue t k c = refl
-  length-settle w kWhenFalse t k c = refl
-  length-settle w kMerge t k c = length-holding t k _
-  length-settle w kReturn t k c = length-holding t k _
-  length-settle w kMemory t k c = refl
-  length-settle w kGated t k c = refl
-  length-settle w kArray t k c = refl
-  length-settle w kAddress t k c = refl
-  length-settle w kRead t k c = refl
-  length-settle w kLatch t k c = refl
-  length-settle w kUnknown t k c = refl
+  length-settle w k_constant t k c = refl
+  length-settle w k_complement t k c = refl
+  length-settle w k_operator t k c = refl
+  length-settle w k_start t k c = length-set t (remaining_byte F k) _
+  length-settle w k_ground t k c = refl
+  length-settle w k_delay t k c = length_taken t k c.delay _ F
+  length-settle w k_or t k c = refl
+  length-settle w k_when_true t k c = refl
+  length-settle w k_when_false t k c = refl
+  length-settle w k_merge t k c = length-holding t k _
+  length-settle w k_return t k c = length-holding t k _
+  length-settle w k_memory t k c = refl
+  length-settle w k_gated t k c = refl
+  length-settle w k_array t k c = refl
+  length-settle w k_address t k c = refl
+  length-settle w k_read t k c = refl
+  length-settle w k_latch t k c = refl
+  length-settle w k_unknown t k c = refl
 
   pub length-settled : (c : Netlist) (t : List ℕ) (k : ℕ) → length (settled F c t k) ≡ length t
   length-settled c t k = length-settle c.pulse (shape_at c k) t k (cell_at c.cells k)
@@ -147,11 +147,11 @@ module _ (F : Format) where
       ∙ put32-same s 0 (instant_of s + 1) (omega arith)
 
   -- the last pass, by shape
-  settled-delay : (c : Netlist) (s : List ℕ) (k : ℕ) → shape_at c k ≡ kDelay → settled F c s k ≡ taken_in F s k (cell_at c.cells k).delay (high (now_at F s (cell_at c.cells k).a))
+  settled-delay : (c : Netlist) (s : List ℕ) (k : ℕ) → shape_at c k ≡ k_delay → settled F c s k ≡ taken_in F s k (cell_at c.cells k).delay (high (now_at F s (cell_at c.cells k).a))
   unfolding settle
   settled-delay c s k e = ap (λ (sh : Shape). settle F c.pulse sh s k (cell_at c.cells k)) e
 
-  settled-start : (c : Netlist) (s : List ℕ) (k : ℕ) → shape_at c k ≡ kStart
+  settled-start : (c : Netlist) (s : List ℕ) (k : ℕ) → shape_at c k ≡ k_start
       → settled F c s k ≡ set s (remaining_byte F k) (remaining_step c.pulse (remaining_at F s k) (high (now_at F s k)))
   unfolding settle
   settled-start c s k e = ap (λ (sh : Shape). settle F c.pulse sh s k (cell_at c.cells k)) e
@@ -346,7 +346,7 @@ module _ (F : Format) where
           (third-own k (base F k + 2 + 1) h (omega arith) (omega (arith, least F)))
 
       -- how many high instants of the start remain
-      pub remaining-after : (k : ℕ) → k < length c.cells → shape_at c k ≡ kStart
+      pub remaining-after : (k : ℕ) → k < length c.cells → shape_at c k ≡ k_start
           → remaining_at F after k ≡ remaining_step c.pulse (remaining_at F u k) (high (now_at F after k))
       remaining-after k h e =
           let from : base F k + 6 ≤ remaining_byte F k = remaining-from F k in
@@ -375,7 +375,7 @@ module _ (F : Format) where
   -- ---- the line of a delay of d in the third pass
 
   module _ (c : Netlist) (v : List ℕ → ℕ → ℕ) (u : List ℕ) (room : base F (length c.cells) ≤ length u)
-      (k : ℕ) (h : k < length c.cells) (e : shape_at c k ≡ kDelay) (kept_in : Line F u k (cell_at c.cells k).delay) where
+      (k : ℕ) (h : k < length c.cells) (e : shape_at c k ≡ k_delay) (kept_in : Line F u k (cell_at c.cells k).delay) where
     abbrev d : ℕ
     d = (cell_at c.cells k).delay
 

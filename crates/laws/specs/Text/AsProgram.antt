@@ -31,16 +31,16 @@ compile-as-program options text lent e =
     ap (λ (c : Checked). writing c file (length file) (finish (program_with options program)) lent)
     (first-behind (given_check options) (text_checks text ++ checks) checks (first-append (text_checks text) checks e))
 
-pub run-as-program : (options : Options) (text words : List ℕ) (n : ℕ) (forFile lent : List ℕ) → first (text_checks text) ≡ Accepted
-    → run_text_call options text words n forFile lent ≡ run_program_call options (text_program text) words n forFile lent
+pub run-as-program : (options : Options) (text words : List ℕ) (n : ℕ) (for_file lent : List ℕ) → first (text_checks text) ≡ Accepted
+    → run_text_call options text words n for_file lent ≡ run_program_call options (text_program text) words n for_file lent
 unfolding run_text_call run_program_call
-run-as-program options text words n forFile lent e =
+run-as-program options text words n for_file lent e =
     let program = text_program text in
     let file = compiled_file options program in
-    let checks = full_run_checks options program words n forFile lent in
+    let checks = full_run_checks options program words n for_file lent in
     ap (λ (c : Checked).
     let r = running Full c file (full_state file words n lent) (full_count file words n lent) lent in
-    record { answer = r.answer; netlist = (writing c file (length file) 0 forFile).lent; state = r.lent })
+    record { answer = r.answer; netlist = (writing c file (length file) 0 for_file).lent; state = r.lent })
     (first-behind (given_check options) (text_checks text ++ checks) checks (first-append (text_checks text) checks e))
 
 -- what reading wrote

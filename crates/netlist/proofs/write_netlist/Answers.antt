@@ -50,4 +50,4 @@ returns c =
     let pulse-right = sym c.pulse_wrong.ensures ∙ c.if-pulse_wrong.false in
     let count-right = rw c.count_wrong.ensures at c.if-cells-count_wrong.false in
     let cells_right = sym c.check_cells-checked.ensures ∙ c.in_default.is in
-    let clauses = rw (write-file args.pulse args.cells.now args.finish args.file.now pulse-right count-right cells_right) c.write_file.ensures in record { answer = clauses.0; lent = clauses.1 }
+    rw (write-file args.pulse args.cells.now args.finish args.file.now pulse-right count-right cells_right) c.write_file.ensures

@@ -12,7 +12,7 @@ use lib.WfN.{lt-wf_rel}
 use Rattle.model.specs.declared.Cell.{Cell}
 use Rattle.model.specs.declared.Checked.TheVariants.{Accepted}
 use Rattle.model.specs.Word.{pick, bit, operate, index, get16, Bytes}
-use Rattle.model.specs.Circuit.{falls, cell_at, array_at, Sig, Values, level, element, memory, latch, equation, start_word, Obeys, Shape, cell_table, shape, kConstant, kComplement, kOperator, kStart, kGround, kDelay, kOr, kWhenTrue, kWhenFalse, kMerge, kReturn, kMemory, kGated, kArray, kAddress, kRead, kLatch, kUnknown}
+use Rattle.model.specs.Circuit.{falls, cell_at, array_at, Sig, Values, level, element, memory, latch, equation, start_word, Obeys, Shape, cell_table, shape, k_constant, k_complement, k_operator, k_start, k_ground, k_delay, k_or, k_when_true, k_when_false, k_merge, k_return, k_memory, k_gated, k_array, k_address, k_read, k_latch, k_unknown}
 use Rattle.model.specs.NetlistFile.{cell_from, cells_at, in_file, cells_of, count_of, finish_of, net_check, file_check, net_of, pulse_of}
 use Rattle.laws.specs.Circuit.Ordered.{Looks, kinds}
 use Rattle.laws.specs.Circuit.Unique.{Feeds, feeds}
@@ -57,29 +57,29 @@ module _ (net : List Cell) (words : ℕ → ℕ) (w : (x : ℕ) → words x < 65
         → ((u : ℕ) → u < t → (j : ℕ) → j < length net → W j u < 65536)
         → ((j : ℕ) → j < k → W j t < 65536) → equation p s starts first (element net words W) W k c t < 65536
     unfolding equation memory latch cell_table
-    equation-word kConstant t o past below = a
-    equation-word kComplement t o past below = operate-word 3 _ 0 (below c.a o.1.0) (omega arith)
-    equation-word kOperator t o past below = operate-word c.kind _ _ (below c.a o.1.0) (below c.b o.2.0)
-    equation-word kStart t o past below = bit_word _
-    equation-word kGround t o past below = omega arith
-    equation-word kDelay t o past below = bit_word _
-    equation-word kOr t o past below = bit_word _
-    equation-word kWhenTrue t o past below = bit_word _
-    equation-word kWhenFalse t o past below = bit_word _
-    equation-word kMerge t o past below = bit_word _
-    equation-word kReturn t o past below = bit_word _
-    equation-word kMemory zero o past below = f
-    equation-word kMemory (suc t) o past below =
+    equation-word k_constant t o past below = a
+    equation-word k_complement t o past below = operate-word 3 _ 0 (below c.a o.1.0) (omega arith)
+    equation-word k_operator t o past below = operate-word c.kind _ _ (below c.a o.1.0) (below c.b o.2.0)
+    equation-word k_start t o past below = bit_word _
+    equation-word k_ground t o past below = omega arith
+    equation-word k_delay t o past below = bit_word _
+    equation-word k_or t o past below = bit_word _
+    equation-word k_when_true t o past below = bit_word _
+    equation-word k_when_false t o past below = bit_word _
+    equation-word k_merge t o past below = bit_word _
+    equation-word k_return t o past below = bit_word _
+    equation-word k_memory zero o past below = f
+    equation-word k_memory (suc t) o past below =
         pick_word (falls W c.a t) (past t (lt-suc_self t) c.b o.2.0) (past t (lt-suc_self t) k l)
-    equation-word kGated t o past below = pick_word (level W c.a t) (below c.b o.2.0) (omega arith)
-    equation-word kArray t o past below = omega arith
-    equation-word kAddress t o past below = omega arith
-    equation-word kRead t o past below =
+    equation-word k_gated t o past below = pick_word (level W c.a t) (below c.b o.2.0) (omega arith)
+    equation-word k_array t o past below = omega arith
+    equation-word k_address t o past below = omega arith
+    equation-word k_read t o past below =
         element-word c.a (index (W c.b t)) t (fed c.a (omega (arith, o.1.0)) (eqb-true _ _ o.1.1)) past
-    equation-word kLatch zero o past below = omega arith
-    equation-word kLatch (suc t) o past below =
+    equation-word k_latch zero o past below = omega arith
+    equation-word k_latch (suc t) o past below =
         pick_word (level W c.a t) (past t (lt-suc_self t) c.b o.2.0) (past t (lt-suc_self t) k l)
-    equation-word kUnknown t o past below = omega arith
+    equation-word k_unknown t o past below = omega arith
 
 -- Netlists -----------------------------------------------------------------------------------------------------------------------------
 

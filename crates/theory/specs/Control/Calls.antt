@@ -10,7 +10,7 @@ use Rattle.model.specs.Word.{pick}
 use Rattle.model.specs.Program.{Stmt, seq, tick, call, touches}
 use Rattle.model.specs.Procedures.{inline, reaches}
 use Rattle.model.specs.Circuit.{Sig, delayed}
-use Rattle.model.specs.Rules.{Costs, imperative, Store, Way, atEnd, Run, done, ended, after, wait, chain, run}
+use Rattle.model.specs.Rules.{Costs, imperative, Store, Way, at_end, Run, done, ended, after, wait, chain, run}
 use Rattle.laws.specs.Refusals.Laws.{by_bool, by_le, not-both}
 use Rattle.laws.specs.Rules.Laws.{wait-is, wait-short, wait-done, wait-still}
 use Rattle.laws.specs.Rules.Uses.{only-ends}
@@ -205,9 +205,9 @@ module _ (W : World) (d p : ℕ) (long : gap W.w ≤ d) (does : RunOf W (W.bodie
             hold = B.hold;
           })
 
-      call_ends : (σ' : Store) → goes W (u - d) (W.bodies p) σ ≡ ended (u - d) σ' → Done atEnd W U σ' K L f g a c e
+      call_ends : (σ' : Store) → goes W (u - d) (W.bodies p) σ ≡ ended (u - d) σ' → Done at_end W U σ' K L f g a c e
       call_ends σ' y =
-          let E = call-body.ends atEnd σ' y in
+          let E = call-body.ends at_end σ' y in
           let R : Returns W.w D r a c e =
           returns W.w D r W.pos a (a + d) c e short o (omega arith) (omega arith) B.ready.calm.1 call-before (pulse-less (omega arith) call-pulse)
           E.fin.quiet (shows-pulse E.fin) in
@@ -257,7 +257,7 @@ module _ (W : World) (d p : ℕ) (long : gap W.w ≤ d) (does : RunOf W (W.bodie
           ends = λ way σ' z.
               let v = wait-done d u (λ k. goes W k (W.bodies p) σ) (sym call-means ∙ z) in
               -- an exit stays within its body
-              let y : way ≡ atEnd = only-ends (imperative W.w) (means W (W.bodies p)) (W.closed p) (u - d) way v.0 σ σ' v.2 in
+              let y : way ≡ at_end = only-ends (imperative W.w) (means W (W.bodies p)) (W.closed p) (u - d) way v.0 σ σ' v.2 in
               let i : v.0 ≡ u - d = omega (arith, v.3) in
               in-way (sym y)
               (call_ends v.1 σ' (v.2 ∙ ap₂ (λ (b : Way) (k : ℕ). done b k σ') y i));

@@ -6,7 +6,7 @@ use Rattle.std.proofs.Math.Bool.{or-true}
 use Rattle.model.specs.Program.{Code, loop, touches}
 use Rattle.model.specs.Procedures.{inline, reaches}
 use Rattle.model.specs.Circuit.{Sig, delayed}
-use Rattle.model.specs.Rules.{Store, Run, done, atEnd, at_exit, ended, still, caught, loops, run}
+use Rattle.model.specs.Rules.{Store, Run, done, at_end, at_exit, ended, still, caught, loops, run}
 use Rattle.laws.specs.Refusals.Laws.{by_le, not-both}
 use Rattle.laws.specs.Rules.Laws.{wait-done, wait-still, chain-done, caught-done, caught-still, caught-of, round, loops_is, round_is}
 use Rattle.model.specs.Program.{gap}
@@ -60,7 +60,7 @@ module _ (W : World) (d : ℕ) (P : Code) (long : gap W.w ≤ d) (timed : Paced 
         record { fin = λ t l k. n.fin t ∙ G.out t l k; out = λ t l k. n.out t; sofar = G.sofar; alive = G.alive; bodies = G.bodies }
 
     -- the body comes to an exit, and the loop ends
-    leaves : (σ₁ : Store) → goes W u P σ ≡ done at_exit u σ₁ → j ≤ c + gap W.w → Done atEnd W U σ₁ K L f g a c j
+    leaves : (σ₁ : Store) → goes W u P σ ≡ done at_exit u σ₁ → j ≤ c + gap W.w → Done at_end W U σ₁ K L f g a c j
     leaves σ₁ p short =
         let E = round-left B u h o' T σ₁ p short in
         record {
@@ -114,7 +114,7 @@ module _ (W : World) (d : ℕ) (P : Code) (long : gap W.w ≤ d) (timed : Paced 
             chain-going (goes W u P σ) (λ t σ₁. round body d i (u - t) σ₁)
             (sym (loops_is body d i u σ) ∙ caught-still (loops body d (suc i) u σ) p)
             (λ t₁ σ₁ p₁ q.
-            let o = (steadily W P timed σ u atEnd t₁ σ₁ p₁).0 in
+            let o = (steadily W P timed σ u at_end t₁ σ₁ p₁).0 in
             going-from (before t₁ σ₁ o p₁) (λ t l k. n.out t) ((on t₁ σ₁ o p₁).goes_on (still-caught q)))
             (running u h o' T);
         ends = λ way σ' p.
@@ -122,10 +122,10 @@ module _ (W : World) (d : ℕ) (P : Code) (long : gap W.w ≤ d) (timed : Paced 
             in-way (sym v.2)
             (chain-done (goes W u P σ) (λ t σ₁. round body d i (u - t) σ₁) (sym (loops_is body d i u σ) ∙ v.1)
             (λ t₁ σ₁ t₂ p₁ q y.
-            let o = (steadily W P timed σ u atEnd t₁ σ₁ p₁).0 in
+            let o = (steadily W P timed σ u at_end t₁ σ₁ p₁).0 in
             let y' : t₂ ≡ u - t₁ = omega arith in
             done-from (before t₁ σ₁ o p₁) (λ t l k. n.out t)
-            ((on t₁ σ₁ o p₁).ends atEnd σ' (caught-of (round body d i (u - t₁) σ₁) (at-time (round body d i (u - t₁) σ₁) y' q))))
+            ((on t₁ σ₁ o p₁).ends at_end σ' (caught-of (round body d i (u - t₁) σ₁) (at-time (round body d i (u - t₁) σ₁) y' q))))
             (λ z q. leaves u h o' T σ' q short));
       }
 
@@ -151,7 +151,7 @@ module _ (W : World) (d : ℕ) (P : Code) (long : gap W.w ≤ d) (timed : Paced 
             let q : w.0 ≡ u - d = omega (arith, w.3) in
             in-way (sym v.2)
             (done-from (waits-quiet u h o' T (a + d) (omega arith) (omega (arith, w.1))) (λ t l k. n.out t)
-            ((on w.1).ends atEnd σ' (caught-of (loops body d i (u - d) σ) (at-time (loops body d i (u - d) σ) q w.2))));
+            ((on w.1).ends at_end σ' (caught-of (loops body d i (u - d) σ) (at-time (loops body d i (u - d) σ) q w.2))));
       }
 
   -- as many rounds as the budget can use

@@ -5,7 +5,7 @@ use Rattle.std.proofs.Math.Path.{ap, ap₂}
 use Rattle.model.specs.Word.{pick}
 use Rattle.model.specs.Program.{Code, Stmt, par, writes, touches}
 use Rattle.model.specs.Procedures.{inline, reaches}
-use Rattle.model.specs.Rules.{imperative, Store, owner, over, kept, ended, run, atEnd, still, both}
+use Rattle.model.specs.Rules.{imperative, Store, owner, over, kept, ended, run, at_end, still, both}
 use Rattle.model.specs.Circuit.{Sig}
 use Rattle.laws.specs.Refusals.Laws.{by_bool, by_le, not-both}
 use Rattle.laws.specs.Program.Fit.{Apart, exits}
@@ -91,10 +91,10 @@ module _ (W : World) (P Q : Code) (timedP : Paced W P) (timedQ : Paced W Q) (apa
           a c e u h o B.ready.calm.2 B.pulse par-owns.1 (free B)
 
       module _ (t₁ : ℕ) (σ₁ : Store) (t₂ : ℕ) (σ₂ : Store) (y : u ≡ max t₁ t₂) (p₁ : goes W u P σ ≡ ended t₁ σ₁) (p₂ : goes W u Q σ ≡ ended t₂ σ₂) where
-        E₁ : Done atEnd W (Own W U Q) σ₁ K₁ L₁ n.f₁ n.g₁ a (a + t₁) e
+        E₁ : Done at_end W (Own W U Q) σ₁ K₁ L₁ n.f₁ n.g₁ a (a + t₁) e
         E₁ = side₁.ends t₁ σ₁ (omega arith) p₁
 
-        E₂ : Done atEnd W (Own W U P) σ₂ K₂ L₂ n.f₂ n.g₂ a (a + t₂) e
+        E₂ : Done at_end W (Own W U P) σ₂ K₂ L₂ n.f₂ n.g₂ a (a + t₂) e
         E₂ = side₂.ends t₂ σ₂ (omega arith) p₂
 
         par-words : Words W U (kept (means W P) (means W Q) σ σ₁ σ₂) c
@@ -107,7 +107,7 @@ module _ (W : World) (P Q : Code) (timedP : Paced W P) (timedQ : Paced W Q) (apa
             (λ z.
             (side₁.last t₁ σ₁ (omega arith) p₁).0 x (i, z)
             ∙ by_bool (writes (means W P) (owner x)) (λ z'. sym (kept-left (means W P) (means W Q) σ σ₁ σ₂ x z'))
-            (λ z'. unwritten (imperative W.w) (means W P) (timely-formed W.w (inline W.flat P) (flat-paced W P timedP)) x z' u atEnd t₁ σ σ₁ p₁ ∙ sym (kept-neither (means W P) (means W Q) σ σ₁ σ₂ x z' z)))
+            (λ z'. unwritten (imperative W.w) (means W P) (timely-formed W.w (inline W.flat P) (flat-paced W P timedP)) x z' u at_end t₁ σ σ₁ p₁ ∙ sym (kept-neither (means W P) (means W Q) σ σ₁ σ₂ x z' z)))
 
         par-meets : Meets W.w n.f₁ n.f₂ a c e
         par-meets =
@@ -133,7 +133,7 @@ module _ (W : World) (P Q : Code) (timedP : Paced W P) (timedQ : Paced W Q) (apa
               sofar = λ q v. by_bool (reaches W.reach Q q) (λ z. S₂.sofar q (v, lone₂ q z)) (λ z. S₁.sofar q (v, z));
             }
 
-        par-ends : Done atEnd W U (kept (means W P) (means W Q) σ σ₁ σ₂) K L f g a c e
+        par-ends : Done at_end W U (kept (means W P) (means W Q) σ σ₁ σ₂) K L f g a c e
         par-ends =
             record {
               fin = shows-on (λ t l k. n.fin t ∙ par-meets.quiet t l k) (pulse-is n.fin par-meets.pulse);
@@ -165,7 +165,7 @@ module _ (W : World) (P Q : Code) (timedP : Paced W P) (timedQ : Paced W Q) (apa
             ends = λ way σ' p.
                 let v = both-done (kept (means W P) (means W Q) σ) (goes W u P σ) (goes W u Q σ) p in
                 in-way (sym v.8)
-                (subst (λ (τ : Store). Done atEnd W U τ K L f g a c e) (sym v.7) (par-ends v.0 v.1 v.2 v.3 v.6 v.4 v.5));
+                (subst (λ (τ : Store). Done at_end W U τ K L f g a c e) (sym v.7) (par-ends v.0 v.1 v.2 v.3 v.6 v.4 v.5));
           }
 
 pub run-par : (W : World) (P Q : Code) → Paced W P → Paced W Q → Apart (means W P) (means W Q) → Apart (means W Q) (means W P)

@@ -4,7 +4,7 @@ use Rattle.std.specs.Prelude.{ℕ, suc, ◌+◌, ◌-◌, ◌≤◌, ◌<◌, �
 use Rattle.std.proofs.Common.{◌∙◌, subst, arith}
 use Rattle.model.specs.Program.{Code}
 use Rattle.model.specs.Circuit.{Sig, delayed}
-use Rattle.model.specs.Rules.{Store, ended, Way, atEnd, done, still, at_exit}
+use Rattle.model.specs.Rules.{Store, ended, Way, at_end, done, still, at_exit}
 use Rattle.laws.specs.Refusals.Laws.{by_le}
 use Rattle.theory.specs.Control.Tests.{Waits, waited}
 use Rattle.model.specs.Program.{gap}
@@ -124,10 +124,10 @@ module _ {W : World} {P : Code} {U : Owned} {d : ℕ} {s X s₁ f₁ : Sig} {g :
         done-as KT Lt (λ o k. ((λ t l k'. by_le a t (λ y₀. q t y₀ l) (λ y₀. T.before t y₀ (omega arith)), line), k)) (λ l. ((tt, line), l)) E
 
     module _ (t₁ : ℕ) (σ₁ : Store) (o : t₁ ≤ u) (p₁ : goes W u P σ ≡ ended t₁ σ₁) where
-      ended_to : (j' : ℕ) → a + t₁ < j' → j' ≤ j → j' ≤ a + t₁ + gap W.w → Done atEnd W U σ₁ K L f₁ g a (a + t₁) j'
-      ended_to = round-done atEnd t₁ σ₁ o p₁
+      ended_to : (j' : ℕ) → a + t₁ < j' → j' ≤ j → j' ≤ a + t₁ + gap W.w → Done at_end W U σ₁ K L f₁ g a (a + t₁) j'
+      ended_to = round-done at_end t₁ σ₁ o p₁
 
-      first : Done atEnd W U σ₁ K L f₁ g a (a + t₁) (suc (a + t₁))
+      first : Done at_end W U σ₁ K L f₁ g a (a + t₁) (suc (a + t₁))
       first = ended_to (suc (a + t₁)) (omega arith) (omega arith) (omega arith)
 
       pub round-quiet : Quiet f₁ a (a + t₁)

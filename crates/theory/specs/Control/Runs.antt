@@ -3,7 +3,7 @@
 use Rattle.std.specs.Prelude.{ℕ, zero, suc, ◌+◌, ◌-◌, ◌≤◌, ◌<◌, ◌≡◌, refl, Bool, true, false}
 use Rattle.std.proofs.Common.{◌∙◌, ap, subst, arith}
 use Rattle.model.specs.Program.{Code}
-use Rattle.model.specs.Rules.{Store, owner, Run, still, Way, atEnd, at_exit, done}
+use Rattle.model.specs.Rules.{Store, owner, Run, still, Way, at_end, at_exit, done}
 use Rattle.model.specs.Circuit.{Sig}
 use Rattle.laws.specs.Refusals.Laws.{by_le}
 use Rattle.theory.specs.Control.Signal.{Quiet, glue, creep}
@@ -77,11 +77,11 @@ free-later {W = W} {U = U} {g = g} {a = a} {c = c} a' σ' o S v F =
 
 -- what the finish and the exit signal show when P is done in this way
 abbrev pub at_finish : Way → Bool
-at_finish atEnd = true
+at_finish at_end = true
 at_finish at_exit = false
 
 abbrev pub at_out : Way → Bool
-at_out atEnd = false
+at_out at_end = false
 at_out at_exit = true
 
 -- P is done at c, in this way, with the words σ: its finish, or its exit signal, is high on [c, c + w), its clocks are low from c on, it calls nothing

@@ -4,7 +4,7 @@ use Rattle.std.proofs.Common.{sym, ◌∙◌, ap₂, subst, arith}
 use Rattle.model.specs.Program.{Code, seq, touches}
 use Rattle.model.specs.Procedures.{inline, reaches}
 use Rattle.model.specs.Circuit.{Sig}
-use Rattle.model.specs.Rules.{Store, owner, ended, still, run, Way, atEnd, at_exit, done}
+use Rattle.model.specs.Rules.{Store, owner, ended, still, run, Way, at_end, at_exit, done}
 use Rattle.laws.specs.Refusals.Laws.{by_le}
 use Rattle.laws.specs.Rules.Laws.{chain-done}
 use Rattle.model.specs.Program.{gap}
@@ -90,13 +90,13 @@ module _ (W : World) (P Q : Code) (timedP : Paced W P) (timedQ : Paced W Q) (doe
 
     module _ (t₁ : ℕ) (σ₁ : Store) (o₁ : t₁ ≤ u) (p₁ : goes W u P σ ≡ ended t₁ σ₁) where
       -- the second part's own clocks, once the first has ended and has been seen to leave
-      seq-follow : (e' : ℕ) → Done atEnd W U σ₁ K₁ L₁ n.mid n.g₁ a (a + t₁) e' → (b : ℕ) → b ≤ c → b ≤ e' → Follows W U n.g₂ (a + t₁) b
+      seq-follow : (e' : ℕ) → Done at_end W U σ₁ K₁ L₁ n.mid n.g₁ a (a + t₁) e' → (b : ℕ) → b ≤ c → b ≤ e' → Follows W U n.g₂ (a + t₁) b
       seq-follow e' E b o₂ o₃ =
           follows-beside W U n.g₂ n.g₁ g (a + t₁) b (joined-swap n.g₁ n.g₂ g n.joined) (is-dull W P s n.mid n.g₁ n.left)
           (λ x t l k. E.low x t l (omega arith)) (within W U g a c (a + t₁) b (omega arith) o₂ B.follow)
 
       -- in the w instants after it the words stay: no clock of the second part falls
-      seq-early : (e' : ℕ) → Done atEnd W U σ₁ K₁ L₁ n.mid n.g₁ a (a + t₁) e' → (b : ℕ) → a + t₁ ≤ b → b ≤ c → b ≤ e' → b ≤ a + t₁ + W.w
+      seq-early : (e' : ℕ) → Done at_end W U σ₁ K₁ L₁ n.mid n.g₁ a (a + t₁) e' → (b : ℕ) → a + t₁ ≤ b → b ≤ c → b ≤ e' → b ≤ a + t₁ + W.w
           → Same W U.vars (a + t₁) (suc b)
       seq-early e' E b o₂ o₃ o₄ o₅ =
           stays W U.vars n.g₂ (a + t₁) b o₂
@@ -105,9 +105,9 @@ module _ (W : World) (P Q : Code) (timedP : Paced W P) (timedQ : Paced W Q) (doe
           (surge W Q timedQ n.mid f n.g₂ n.right (a + t₁) k (seq-waits (a + t₁) (omega arith) E.fin.quiet).calm l (omega arith)
           (pulse-firm k (omega arith) (omega arith) (shows-pulse E.fin)) (λ y r. q y (seq-owns.1.mine (owner y) r))).clocks x)
 
-      seq-left : Done atEnd W U σ₁ K₁ L₁ n.mid n.g₁ a (a + t₁) e
+      seq-left : Done at_end W U σ₁ K₁ L₁ n.mid n.g₁ a (a + t₁) e
       seq-left =
-          seq-first.ends atEnd t₁ σ₁ p₁ e (omega arith) (omega arith)
+          seq-first.ends at_end t₁ σ₁ p₁ e (omega arith) (omega arith)
           (λ e' l k E. (
             pulse-less (omega arith) B.pulse,
             λ x i j.
@@ -186,10 +186,10 @@ module _ (W : World) (P Q : Code) (timedP : Paced W P) (timedQ : Paced W Q) (doe
         record {
           goes_on = λ p.
               chain-going (goes W u P σ) (λ t σ₁. goes W (u - t) Q σ₁) p
-              (λ t₁ σ₁ q. seq-goes-on t₁ σ₁ (steadily W P timedP σ u atEnd t₁ σ₁ q).0 q) seq-first-going;
+              (λ t₁ σ₁ q. seq-goes-on t₁ σ₁ (steadily W P timedP σ u at_end t₁ σ₁ q).0 q) seq-first-going;
           ends = λ way σ' p.
               chain-done (goes W u P σ) (λ t σ₁. goes W (u - t) Q σ₁) p
-              (λ t₁ σ₁ t₂ q q₁ q₂. seq-ends t₁ σ₁ (steadily W P timedP σ u atEnd t₁ σ₁ q).0 q way t₂ σ' (sym q₂) q₁)
+              (λ t₁ σ₁ t₂ q q₁ q₂. seq-ends t₁ σ₁ (steadily W P timedP σ u at_end t₁ σ₁ q).0 q way t₂ σ' (sym q₂) q₁)
               (λ z q. in-way (sym z) (seq-leaves σ' q));
         }
 

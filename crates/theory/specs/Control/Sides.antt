@@ -6,7 +6,7 @@ use Rattle.std.proofs.Math.Bool.{or-false}
 use Rattle.model.specs.Program.{Code, writes}
 use Rattle.model.specs.Procedures.{reaches}
 use Rattle.model.specs.Circuit.{Sig}
-use Rattle.model.specs.Rules.{Store, ended, still, Way, atEnd, done}
+use Rattle.model.specs.Rules.{Store, ended, still, Way, at_end, done}
 use Rattle.laws.specs.Refusals.Laws.{by_bool}
 use Rattle.laws.specs.Program.Fit.{Apart}
 use Rattle.laws.specs.Rules.Uses.{apart-unwritten}
@@ -95,7 +95,7 @@ Own W U O =
 
 pub record Side (W : World) (R O : Code) (U : Owned) (σ : Store) (K L : ℕ → Type 0) (fR : Sig) (gR : Gives) (a c e u : ℕ) : Type 0 where
   pub goes_on : goes W u R σ ≡ still → Going W (Own W U O) K L fR gR a c
-  pub ends : (t₁ : ℕ) (σ₁ : Store) → t₁ ≤ u → goes W u R σ ≡ ended t₁ σ₁ → Done atEnd W (Own W U O) σ₁ K L fR gR a (a + t₁) e
+  pub ends : (t₁ : ℕ) (σ₁ : Store) → t₁ ≤ u → goes W u R σ ≡ ended t₁ σ₁ → Done at_end W (Own W U O) σ₁ K L fR gR a (a + t₁) e
   -- whether it has ended or not
   pub sofar : L (suc c)
   pub bodies : (q : ℕ) → (Own W U O).procs q → BodySofar W q (suc c)
@@ -185,8 +185,8 @@ module _ (W : World) (R O : Code) (timedR : Paced W R) (doesR : RunOf W R) (apar
   side =
       record {
         goes_on = λ p. going-at h (side-launched.goes_on p);
-        ends = λ t₁ σ₁ o₁ p. side_left atEnd t₁ σ₁ o₁ p;
+        ends = λ t₁ σ₁ o₁ p. side_left at_end t₁ σ₁ o₁ p;
         sofar = side-so-far.0;
         bodies = side-so-far.1;
-        last = λ t₁ σ₁ o₁ p. side-last atEnd t₁ σ₁ o₁ p;
+        last = λ t₁ σ₁ o₁ p. side-last at_end t₁ σ₁ o₁ p;
       }

@@ -8,7 +8,7 @@ use Rattle.model.specs.Word.{pick, element_word}
 use Rattle.model.specs.Program.{Expr, ok, tick, assign, assign_elem, exit, array_var, reads, touches}
 use Rattle.model.specs.Procedures.{inline, reaches}
 use Rattle.model.specs.Circuit.{Sig, delayed}
-use Rattle.model.specs.Rules.{Store, owner, ended, wait, run, eval, put, atEnd}
+use Rattle.model.specs.Rules.{Store, owner, ended, wait, run, eval, put, at_end}
 use Rattle.laws.specs.Refusals.Laws.{by_bool, by_le, not-both}
 use Rattle.laws.specs.Program.Fit.{FormedExpr}
 use Rattle.laws.specs.Rules.Words.{other-variable, other-element}
@@ -229,7 +229,7 @@ module _ (W : World) (d y : ℕ) (r : ℕ → ℕ) (e : Expr) (pos : 1 ≤ d) (U
                   (λ x t l i. n.called x t);
             }
 
-        assign-ends : a + d + W.w ≡ c → Done atEnd W U τ K L f g a c j
+        assign-ends : a + d + W.w ≡ c → Done at_end W U τ K L f g a c j
         assign-ends q =
             let last : suc (a + d + (W.w - 1)) ≡ c = omega arith in
             let so = assign-sofar j (omega arith) (λ v l i. omega arith) in
@@ -261,7 +261,7 @@ module _ (W : World) (d y : ℕ) (r : ℕ → ℕ) (e : Expr) (pos : 1 ≤ d) (U
                   let v = wait-done (d + W.w) u (λ k₁. ended 0 τ) p in
                   let z : 0 ≡ v.0 = done-time v.2 in
                   in-way (done-way v.2)
-                  (subst (λ (σ : Store). Done atEnd W U σ K L f g a c j) (done-words v.2) (assign-ends (omega (arith, v.3, z))));
+                  (subst (λ (σ : Store). Done at_end W U σ K L f g a c j) (done-words v.2) (assign-ends (omega (arith, v.3, z))));
             }
 
 pub run-assign : (W : World) (d y : ℕ) (e : Expr) → 1 ≤ d → y < 16 → FormedExpr e → ShortOf W (assign d y e)

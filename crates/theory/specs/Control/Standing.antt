@@ -9,7 +9,7 @@ use native.Mathlib.Omega.{arith}
 use Rattle.model.specs.Program.{Program, gap}
 use Rattle.model.specs.Procedures.{body_at, inlined, meaning, reached}
 use Rattle.model.specs.Circuit.{Sig}
-use Rattle.model.specs.Rules.{imperative, Store, owner, ended, still, run, shows_at, due, atEnd}
+use Rattle.model.specs.Rules.{imperative, Store, owner, ended, still, run, shows_at, due, at_end}
 use Rattle.laws.specs.Program.Fit.{Separate, Inside}
 use Rattle.laws.specs.Program.Admitted.{Admitted, flat-is, reach-is, below, plain, plain_flat, plain-main, lone-body, lone-main}
 use Rattle.laws.specs.Program.Widths.{gap-least}
@@ -175,7 +175,7 @@ module _ (S : Program) (A : Admitted S) (G : Signals S) (s f : Sig) (g : Gives) 
       pub stands-words : (x : ℕ) → G.m b x ≡ σ' x
       stands-words x =
           rw now at
-          (words-after W S.main paced apart enclosed (lone-main S A) U σ s f g circuit a e ready begins (follows a e) (λ t l h. silent t) atEnd
+          (words-after W S.main paced apart enclosed (lone-main S A) U σ s f g circuit a e ready begins (follows a e) (λ t l h. silent t) at_end
           t σ' (same σ t ∙ p) u x (omega (arith, now)) (omega (arith, now)) tt)
 
       -- the words stay, since no clock is high at b
@@ -183,7 +183,7 @@ module _ (S : Program) (A : Admitted S) (G : Signals S) (s f : Sig) (g : Gives) 
       unfolding Mem latch
       words-next x =
           let D =
-          done_at W S.main paced apart enclosed (lone-main S A) U σ s f g circuit a e ready begins (follows a e) (λ t l h. silent t) atEnd t σ'
+          done_at W S.main paced apart enclosed (lone-main S A) U σ s f g circuit a e ready begins (follows a e) (λ t l h. silent t) at_end t σ'
           (same σ t ∙ p) (omega arith) in
           let low : G.all.clk (owner x) b ≡ false =
           (follows b b).low (owner x) tt b (omega arith) (omega arith) (D.low (owner x) b past (omega arith))
@@ -198,7 +198,7 @@ module _ (S : Program) (A : Admitted S) (G : Signals S) (s f : Sig) (g : Gives) 
     module _ (t : ℕ) (σ' : Store) (p : run (imperative S.pulse) t (meaning S) σ ≡ ended t σ') (past : a + t + gap S.pulse ≤ suc b) where
       calm-next : Calm W S.main s f g circuit (suc b) × ((q : ℕ) → q < length S.bodies → Idle W q (suc b))
       calm-next =
-          rests-after W S.main paced apart enclosed (lone-main S A) U σ s f g circuit a e ready begins (follows a e) (λ t l h. silent t) atEnd
+          rests-after W S.main paced apart enclosed (lone-main S A) U σ s f g circuit a e ready begins (follows a e) (λ t l h. silent t) at_end
           t σ' (same σ t ∙ p) past
 
       pub stands-rest : Resting W S.main s f g circuit (suc b)

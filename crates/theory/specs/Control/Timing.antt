@@ -8,7 +8,7 @@ use Rattle.std.proofs.Math.Bool.{or-true}
 use Rattle.model.specs.Program.{Code, ok, tick, assign, assign_elem, seq, par, ite, while, repeat, loop, exit, call}
 use Rattle.model.specs.Procedures.{inline, reaches}
 use Rattle.model.specs.Circuit.{Sig}
-use Rattle.model.specs.Rules.{Store, owner, still, Way, atEnd, done, at_exit, shows_at}
+use Rattle.model.specs.Rules.{Store, owner, still, Way, at_end, done, at_exit, shows_at}
 use Rattle.laws.specs.Refusals.Laws.{by_le}
 use Rattle.laws.specs.Program.Fit.{Separate, Inside}
 use Rattle.laws.specs.Program.Admitted.{Lone}
@@ -110,8 +110,8 @@ module _ (W : World) (P : Code) (timed : Paced W P) (separate : Separate (means 
   finish-at u l =
       by_runs (goes W u P σ)
       (λ t σ' p.
-      let i = steadily W P timed σ u atEnd t σ' p in
-      let E = done_at atEnd t σ' (i.1 t (omega arith)) (omega (arith, i.0)) in
+      let i = steadily W P timed σ u at_end t σ' p in
+      let E = done_at at_end t σ' (i.1 t (omega arith)) (omega (arith, i.0)) in
       (by_le (t + W.w) u (λ k. E.fin.low (a + u) (omega arith) l ∙ sym (le-ltb u (t + W.w) k))
       (λ k. E.fin.level (a + u) (omega (arith, i.0)) (omega arith) l ∙ sym (lt-ltb u (t + W.w) k)))
       ∙ sym (ap (shows_at W.w u) p))

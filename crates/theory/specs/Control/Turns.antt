@@ -5,7 +5,7 @@ use Rattle.std.proofs.Common.{sym, ◌∙◌, ap, ap₂, subst, arith}
 use Rattle.model.specs.Word.{is_zero}
 use Rattle.model.specs.Program.{Expr, Code, reads}
 use Rattle.model.specs.Circuit.{Sig, delayed}
-use Rattle.model.specs.Rules.{Store, owner, Run, ended, still, wait, chain, eval, atEnd, at_exit, done}
+use Rattle.model.specs.Rules.{Store, owner, Run, ended, still, wait, chain, eval, at_end, at_exit, done}
 use Rattle.laws.specs.Refusals.Laws.{by_bool, by_le, not-both}
 use Rattle.laws.specs.Program.Fit.{FormedExpr}
 use Rattle.laws.specs.Rules.Laws.{done-still, wait-still, wait-done, chain-done, done-way, done-time, done-words}
@@ -166,7 +166,7 @@ module _ {W : World} {P : Code} {U : Owned} {d : ℕ} {e : Expr} {more : Bool �
           (λ k x r v l k₁ k₂. test_words waits firm e I.formed I.reading x r v l k₁ (omega arith))
 
       -- the condition says stop: the loop ends
-      stops : more (is_zero (eval e σ)) ≡ false → a + d ≡ c → j ≤ c + gap W.w → Done atEnd W U σ K L f g a c j
+      stops : more (is_zero (eval e σ)) ≡ false → a + d ≡ c → j ≤ c + gap W.w → Done at_end W U σ K L f g a c j
       stops z q short =
           let none : Quiet s₁ (a + gap W.w) j =
           λ t l k.
@@ -230,13 +230,13 @@ module _ {W : World} {P : Code} {U : Owned} {d : ℕ} {e : Expr} {more : Bool �
           goes_on = λ p.
               chain-going (goes W u P σ) (λ t σ₁. next n (u - t) σ₁) (sym (R.lap n u σ) ∙ p)
               (λ t₁ σ₁ p₁ q.
-              let o = (steadily W P B.timed σ u atEnd t₁ σ₁ p₁).0 in
+              let o = (steadily W P B.timed σ u at_end t₁ σ₁ p₁).0 in
               going-from (before t₁ σ₁ o p₁) (round-in B u h o' T t₁ σ₁ o p₁) ((on t₁ σ₁ o p₁).goes_on q))
               (running u h o' T turned);
           ends = λ way σ' p.
               chain-done (goes W u P σ) (λ t σ₁. next n (u - t) σ₁) (sym (R.lap n u σ) ∙ p)
               (λ t₁ σ₁ t₂ p₁ q y.
-              let o = (steadily W P B.timed σ u atEnd t₁ σ₁ p₁).0 in
+              let o = (steadily W P B.timed σ u at_end t₁ σ₁ p₁).0 in
               let y' : t₂ ≡ u - t₁ = omega arith in
               done-from (before t₁ σ₁ o p₁) (round-in B u h o' T t₁ σ₁ o p₁) ((on t₁ σ₁ o p₁).ends way σ' (at-time (next n (u - t₁) σ₁) y' q)))
               (λ z q. in-way (sym z) (left u h o' T turned σ' q short));
@@ -274,7 +274,7 @@ module _ {W : World} {P : Code} {U : Owned} {d : ℕ} {e : Expr} {more : Bool �
               let v = wait-done d u (λ k. ended 0 σ) (sym (R.stop n u σ z) ∙ p) in
               let y : 0 ≡ v.0 = done-time v.2 in
               in-way (done-way v.2)
-              (subst (λ (τ : Store). Done atEnd W U τ K L f g a c j) (done-words v.2)
+              (subst (λ (τ : Store). Done at_end W U τ K L f g a c j) (done-words v.2)
               (stops u h o' T turned (omega (arith, v.1)) z (omega (arith, v.3, y)) short)));
         }
 

@@ -19,7 +19,7 @@ use Rattle.model.specs.Word.{Bytes}
 use Rattle.model.specs.Refusals.{first}
 use Rattle.model.specs.ProgramChecks.{check_functional}
 use Rattle.model.specs.Program.{Stmt, program_of}
-use Rattle.model.specs.Rules.{functional, Store, Ends, ended, still, run, shows_at, due, atEnd}
+use Rattle.model.specs.Rules.{functional, Store, Ends, ended, still, run, shows_at, due, at_end}
 use Rattle.model.specs.Circuit.{Netlist, Sig, Values, high, level, Obeys}
 use Rattle.model.specs.NetlistFile.{cells_of, net_of, finish_of, last_words}
 use Rattle.model.specs.State.{instant_of, Course, state_size, now_at, begin_state, continued}
@@ -143,10 +143,10 @@ module _ (options : Options) (program file words lent : List ℕ) (table : optio
       (unfold run_netlist_call running in
       rw (X.accepted, le-ltb 1000000 n l, promise.words-fit Full options program file words lent table e made bytes word_bytes begun, le-ltb (length lent) (state_size Full net) (promise.room Full options program file words lent table e made bytes word_bytes begun))))
 
-  program-is : (forFile : List ℕ) → ltb (length forFile) (length (functional_file program)) ≡ false → (n : ℕ) → n ≤ 1000000
-      → run_functional_program_call options program words n forFile lent ≡ record { answer = whole n; netlist = overwrite file forFile; state = left n }
+  program-is : (for_file : List ℕ) → ltb (length for_file) (length (functional_file program)) ≡ false → (n : ℕ) → n ≤ 1000000
+      → run_functional_program_call options program words n for_file lent ≡ record { answer = whole n; netlist = overwrite file for_file; state = left n }
   unfolding run_functional_program_call running retold writing
-  program-is forFile fits n l =
+  program-is for_file fits n l =
       let roomy : ltb (length lent) (state_size Full net) ≡ false = le-ltb (length lent) (state_size Full net) (promise.room Full options program file words lent table e made bytes word_bytes begun) in
       rw (e, table, ← made, le-ltb 1000000 n l, promise.words-fit Full options program file words lent table e made bytes word_bytes begun, rw (← made) at fits, roomy)
 
@@ -160,12 +160,12 @@ module _ (options : Options) (program file words lent : List ℕ) (table : optio
   -- where the rules end within the budget
   module _ (n t : ℕ) (l : n ≤ 1000000) (σ' : Store) (p : run functional n Q σ ≡ ended t σ') where
     steadily : (t ≤ n) × ((k : ℕ) → t ≤ k → run functional k Q σ ≡ ended t σ')
-    steadily = steady functional Q timed σ n atEnd t σ' p
+    steadily = steady functional Q timed σ n at_end t σ' p
 
     low-before : (u : ℕ) → u < t → level W fin u ≡ false
     unfolding due shows_at
     low-before u x =
-        finishes u ∙ ap (shows_at 1 u) (still_before (λ k. run functional k Q σ) (steady functional Q timed σ) n atEnd t u σ' p x)
+        finishes u ∙ ap (shows_at 1 u) (still_before (λ k. run functional k Q σ) (steady functional Q timed σ) n at_end t u σ' p x)
 
     high-at : level W fin t ≡ true
     unfolding due shows_at
@@ -210,20 +210,20 @@ module _ (options : Options) (program file words lent : List ℕ) (table : optio
         let e : 1 + (on n).count ≡ n + 1 = omega (arith, C.count, z) in
         rw (begins, e, H.instant l, H.body.present fin X.wire, low n (omega arith))
 
-  pub full_runs : (forFile : List ℕ) → ltb (length forFile) (length (functional_file program)) ≡ false
-      → FunctionalRuns Q σ file forFile (begin_functional_call Full file words lent) (λ k. run_functional_program_call options program words k forFile lent)
+  pub full_runs : (for_file : List ℕ) → ltb (length for_file) (length (functional_file program)) ≡ false
+      → FunctionalRuns Q σ file for_file (begin_functional_call Full file words lent) (λ k. run_functional_program_call options program words k for_file lent)
       (λ k. run_functional_call file words k lent)
-  full_runs forFile fits =
+  full_runs for_file fits =
       record {
         alike = λ n l.
-            program-is forFile fits n l
-            ∙ ap (λ (r : Returned Answer). record { answer = r.answer; netlist = overwrite file forFile; state = r.lent }) (sym (run_is n l));
+            program-is for_file fits n l
+            ∙ ap (λ (r : Returned Answer). record { answer = r.answer; netlist = overwrite file for_file; state = r.lent }) (sym (run_is n l));
         runs = λ n l. run_is n l ∙ last-is n l;
         ends = λ n t σ' l E o. ap (λ (r : Returned Answer). r.answer) (run_is n l) ∙ agrees n t l σ' (ends-run functional Q timed σ t σ' E n o);
         goes_on = λ n l never.
             ap (λ (r : Returned Answer). seen_in r.answer) (run_is n l)
             ∙ by_runs (run functional n Q σ)
-            (λ t σ' p. absurd (never t σ' (run_ends functional Q n σ t σ' p) (steady functional Q timed σ n atEnd t σ' p).0))
+            (λ t σ' p. absurd (never t σ' (run_ends functional Q n σ t σ' p) (steady functional Q timed σ n at_end t σ' p).0))
             (λ t σ' p. never-leaves functional Q closed n t σ σ' p) (λ p. stays_open n l p);
       }
 
@@ -259,7 +259,7 @@ module _ (options : Options) (program words : List ℕ) (n : ℕ) (answered-so :
   pub reference-ended : (reference_functional_call options program words n).outcome ≡ Ended → (t : ℕ) × (σ' : Store) × (t ≤ n) × Ends functional P τ t σ'
   unfolding reference_answer
   reference-ended e =
-      by_runs (run functional n P τ) (λ t σ' p. (t, σ', (steady functional P in_order τ n atEnd t σ' p).0, run_ends functional P n τ t σ' p))
+      by_runs (run functional n P τ) (λ t σ' p. (t, σ', (steady functional P in_order τ n at_end t σ' p).0, run_ends functional P n τ t σ' p))
       (λ t σ' p. never-leaves functional P shut n t τ σ' p)
       (λ p. absurd (open-no-end (sym (ap (λ (a : Answer). a.outcome) (called.1 ∙ ap (reference_answer n) p)) ∙ e)))
 
@@ -277,13 +277,13 @@ module _ (options : Options) (program words : List ℕ) (n : ℕ) (answered-so :
 pub functional-demand : Functional
 functional-demand =
     record {
-      compiled = λ options program forFile n f bytes done. functional-file options program forFile n f done bytes;
-      lists = λ F options program forFile words forState calls n f done bytes word_bytes begun.
-          keeps F options program (take n (compile_functional_call options program forFile).lent) words forState (table-accepted options program forFile n f done)
-          (program-accepted options program forFile n f done) (file-made options program forFile n f done) bytes word_bytes begun calls;
-      full_runs = λ options program forFile words forState n f done bytes word_bytes begun.
-          full_runs options program (take n (compile_functional_call options program forFile).lent) words forState (table-accepted options program forFile n f done)
-          (program-accepted options program forFile n f done) (file-made options program forFile n f done) bytes word_bytes begun forFile (file-room options program forFile n f done);
+      compiled = λ options program for_file n f bytes done. functional-file options program for_file n f done bytes;
+      lists = λ F options program for_file words for_state calls n f done bytes word_bytes begun.
+          keeps F options program (take n (compile_functional_call options program for_file).lent) words for_state (table-accepted options program for_file n f done)
+          (program-accepted options program for_file n f done) (file-made options program for_file n f done) bytes word_bytes begun calls;
+      full_runs = λ options program for_file words for_state n f done bytes word_bytes begun.
+          full_runs options program (take n (compile_functional_call options program for_file).lent) words for_state (table-accepted options program for_file n f done)
+          (program-accepted options program for_file n f done) (file-made options program for_file n f done) bytes word_bytes begun for_file (file-room options program for_file n f done);
       ends = λ options program words n t σ' v. reference-ends options program words n v t σ';
       ended = λ options program words n e. reference-ended options program words n (ap verdict e ∙ accepted-ended) e;
       still_open = λ options program words n e. reference-open options program words n (ap verdict e ∙ accepted-open) e;

@@ -11,7 +11,7 @@ use Rattle.std.proofs.lemmas.Nat.{or_comm}
 use Rattle.model.specs.Word.{pick, is_zero}
 use Rattle.model.specs.Program.{Expr, Stmt, while, repeat}
 use Rattle.model.specs.Circuit.{Sig, delayed}
-use Rattle.model.specs.Rules.{functional, postponed, Store, eval, Run, atEnd, ended, still, wait, chain, whiles, repeats, run}
+use Rattle.model.specs.Rules.{functional, postponed, Store, eval, Run, at_end, ended, still, wait, chain, whiles, repeats, run}
 use Rattle.laws.specs.Refusals.Laws.{by_bool, by_le, not-both}
 use Rattle.laws.specs.Program.Fit.{Timed, Formed}
 use Rattle.laws.specs.Rules.Laws.{steady, by_runs, done-time, done-words, done-still, wait-done, wait-still, chain-ended, chain-still, whiles-stop, whiles-more, again, repeats-is, again-more, again-stop}
@@ -202,7 +202,7 @@ module _ (E : Tags) (D : ℕ) (e : Expr) (P : Stmt) (pos : 2 ≤ D) (timed : Tim
                     brings-second (written P) s f₁ v w₁ w latches σ₁ (a + D + t₁) (T.after (a + D + t₁) (omega arith) (omega arith)) Y.high
                     (λ x. Y.words (a + D + t₁) x (omega arith) (omega arith));
                 ins = λ t x l k. T.ins t x (omega arith) k;
-                kept = λ x e. unwritten functional P formed x e (u - D) atEnd t₁ σ σ₁ p ∙ T.kept x e;
+                kept = λ x e. unwritten functional P formed x e (u - D) at_end t₁ σ σ₁ p ∙ T.kept x e;
               }
 
           while-so-far : Quiet f (suc a) (suc (a + D + t₁))
@@ -505,7 +505,7 @@ module _ (E : Tags) (d : ℕ) (e : Expr) (P : Stmt) (pos : 1 ≤ d) (timed : Tim
         repeat-held m o₁ o₂ q =
             ((does E σ s₁ f₁ l w (suc a) m (m - suc a) (omega arith)
             (record { calm = T.calm; start = repeat-on; after = repeat-started m q; words = repeat-latched m o₂ q })
-            ).ends t₁ σ₁ ((steady functional P timed σ (u - 1) atEnd t₁ σ₁ p).1 (m - suc a) (omega arith))).words
+            ).ends t₁ σ₁ ((steady functional P timed σ (u - 1) at_end t₁ σ₁ p).1 (m - suc a) (omega arith))).words
 
         module _ (o₁ : suc t₁ + d ≤ u) where
           repeat-unloaded : Quiet (either s g) (suc a) (suc a + t₁ + d)
@@ -574,7 +574,7 @@ module _ (E : Tags) (d : ℕ) (e : Expr) (P : Stmt) (pos : 1 ≤ d) (timed : Tim
                       brings-second (written P) s g v w l latches σ₁ (suc a + t₁ + d) repeat-quiet repeat-more
                       (λ x. repeat-words (suc a + t₁ + d) x (omega arith) (omega arith));
                   ins = λ t x j k. T.ins t x (omega arith) k;
-                  kept = λ x i. unwritten functional P formed x i (u - 1) atEnd t₁ σ σ₁ p ∙ T.kept x i;
+                  kept = λ x i. unwritten functional P formed x i (u - 1) at_end t₁ σ σ₁ p ∙ T.kept x i;
                 }
 
   module _ (n : ℕ)

@@ -59,35 +59,35 @@ use Rattle.theory.specs.Functional.Whole as whole
 
 -- Compiling ------------------------------------------------------------------------------------------------------------------------------
 
-module _ (options : Options) (program forFile : List ℕ) (n f : ℕ) (done : (compile_functional_call options program forFile).answer ≡ Done n f) where
+module _ (options : Options) (program for_file : List ℕ) (n f : ℕ) (done : (compile_functional_call options program for_file).answer ≡ Done n f) where
   abbrev P : Stmt
   P = statement_of program
 
   abbrev file : List ℕ
   file = functional_file program
 
-  compiled : Wrote (first (compile_functional_checks options program forFile)) file (length file) (circuit.finish_of P) forFile n f
+  compiled : Wrote (first (compile_functional_checks options program for_file)) file (length file) (circuit.finish_of P) for_file n f
   unfolding compile_functional_call
-  compiled = wrote (first (compile_functional_checks options program forFile)) file (length file) (circuit.finish_of P) forFile n f done
+  compiled = wrote (first (compile_functional_checks options program for_file)) file (length file) (circuit.finish_of P) for_file n f done
 
   pub table-accepted : options.checked ≡ Accepted
-  table-accepted = all-accept (compile_functional_checks options program forFile) compiled.accepted 0
+  table-accepted = all-accept (compile_functional_checks options program for_file) compiled.accepted 0
 
   pub program-accepted : check_functional options program ≡ Accepted
-  program-accepted = all-accept (compile_functional_checks options program forFile) compiled.accepted 1
+  program-accepted = all-accept (compile_functional_checks options program for_file) compiled.accepted 1
 
-  pub file-room : ltb (length forFile) (length file) ≡ false
-  file-room = refuse-unless _ 14 0 (all-accept (compile_functional_checks options program forFile) compiled.accepted 2)
+  pub file-room : ltb (length for_file) (length file) ≡ false
+  file-room = refuse-unless _ 14 0 (all-accept (compile_functional_checks options program for_file) compiled.accepted 2)
 
-  pub file-made : take n (compile_functional_call options program forFile).lent ≡ file
+  pub file-made : take n (compile_functional_call options program for_file).lent ≡ file
   unfolding compile_functional_call
   file-made =
-      ap₂ (λ (k : ℕ) (r : Returned Written). take k r.lent) compiled.count compiled.told ∙ take-append_seam file (drop (length file) forFile)
+      ap₂ (λ (k : ℕ) (r : Returned Written). take k r.lent) compiled.count compiled.told ∙ take-append_seam file (drop (length file) for_file)
 
   some : 0 < length (netlist_of P)
   some = omega (arith, net-len P)
 
-  pub functional-file : Bytes program → FunctionalFile P (take n (compile_functional_call options program forFile).lent) f
+  pub functional-file : Bytes program → FunctionalFile P (take n (compile_functional_call options program for_file).lent) f
   functional-file bytes =
       let t = table-accepted in
       let e = program-accepted in
@@ -95,7 +95,7 @@ module _ (options : Options) (program forFile : List ℕ) (n f : ℕ) (done : (c
       let z = meaning-low options program t e bytes in
       let b = meaning-basic options program t e in
       let size = fits (table_alone options) program (also-accepted options program t e) (main-basic options program t e) in
-      let cells : cells_of (take n (compile_functional_call options program forFile).lent) ≡ netlist_of P =
+      let cells : cells_of (take n (compile_functional_call options program for_file).lent) ≡ netlist_of P =
       ap cells_of file-made ∙ cells-written 1 (netlist_of P) (circuit.finish_of P) some in
       record {
         accepted = ap file_check file-made

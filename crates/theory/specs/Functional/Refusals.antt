@@ -102,15 +102,15 @@ running-refuses F nss cs w o file s n lent =
     let v = running-verdict F (first cs) file s n lent in
     mode-refuses F file lent (running F (first cs) file s n lent) nss cs w o v (rw v at (run-refuses F nss cs w o file s n lent).1)
 
-program_runs : (G : Given) (program words : List ℕ) (n : ℕ) (forFile lent : List ℕ) →
-    let r = run_functional_program_call (load G) program words n forFile lent in
+program_runs : (G : Given) (program words : List ℕ) (n : ℕ) (for_file lent : List ℕ) →
+    let r = run_functional_program_call (load G) program words n for_file lent in
     let c = verdict r.answer.outcome in
-    Refuses (table_numbers ∷ functional_numbers ∷ just 13 ∷ just 14 ∷ just 14 ∷ just 14 ∷ []) (run_functional_program_checks (load G) program words n forFile lent) c
-    × Leaves c forFile r.netlist × Leaves c lent r.state
+    Refuses (table_numbers ∷ functional_numbers ∷ just 13 ∷ just 14 ∷ just 14 ∷ just 14 ∷ []) (run_functional_program_checks (load G) program words n for_file lent) c
+    × Leaves c for_file r.netlist × Leaves c lent r.state
 unfolding run_functional_program_call
-program_runs G program words n forFile lent =
+program_runs G program words n for_file lent =
     let file = functional_file program in
-    let cs = run_functional_program_checks (load G) program words n forFile lent in
+    let cs = run_functional_program_checks (load G) program words n for_file lent in
     let s = full_state file words n lent in
     let m = full_count file words n lent in
     let r = running Full (first cs) file s m lent in
@@ -121,10 +121,10 @@ program_runs G program words n forFile lent =
         functional-gives (load G) program,
         (
           budget-gives n,
-          (short-gives (length words) 544, (short-gives (length forFile) (length file), (short-gives (length lent) (state_size Full (net_of file)), tt))),
+          (short-gives (length words) 544, (short-gives (length for_file) (length file), (short-gives (length lent) (state_size Full (net_of file)), tt))),
         ),
       ),
-    ) file s m forFile lent)
+    ) file s m for_file lent)
 
 pub functional-refusals : FunctionalRefusals
 unfolding compile_functional_call reference_functional_call begin_call start_call run_netlist_call

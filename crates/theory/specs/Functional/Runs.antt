@@ -8,7 +8,7 @@ use native.Mathlib.Omega.{arith}
 use Rattle.model.specs.Word.{pick}
 use Rattle.model.specs.Program.{Expr, Stmt, ok, tick, assign, seq}
 use Rattle.model.specs.Circuit.{Sig}
-use Rattle.model.specs.Rules.{functional, run, Store, eval, put, Run, ended, still, atEnd}
+use Rattle.model.specs.Rules.{functional, run, Store, eval, put, Run, ended, still, at_end}
 use Rattle.laws.specs.Refusals.Laws.{by_le, not-both}
 use Rattle.laws.specs.Program.Fit.{Timed, exits}
 use Rattle.laws.specs.Rules.Laws.{by_runs, done-time, done-words, done-still, wait-done, wait-still, chain-ended, chain-still, still_before, still-below, steady}
@@ -61,7 +61,7 @@ by-ended P x k σ f g = by_runs (run functional k P σ) f (λ t σ' q. never-lea
 
 -- a run that ended took no longer than its budget
 pub in-time : (P : Stmt) → Timed P → (σ : Store) (u t : ℕ) (σ' : Store) → run functional u P σ ≡ ended t σ' → t ≤ u
-in-time P h σ u t σ' p = (steady functional P h σ u atEnd t σ' p).0
+in-time P h σ u t σ' p = (steady functional P h σ u at_end t σ' p).0
 
 -- up to the horizon no pulse has entered a delay that held one
 pub lately : (E : Tags) (P : Stmt) → Timed P → (σ : Store) (s f : Sig) (v w : Words) (a b u : ℕ) → a + u ≡ b → exits P ≡ false → Quiet s (suc a) (suc b)
@@ -103,11 +103,11 @@ module _ (E : Tags) (P : Stmt) (timed : Timed P) (does : RunOf P) (σ : Store) (
         alive = λ p. (launch-to u (omega arith) (λ t l k. going p t l (omega arith))).alive p;
         so_far = λ p. (launch-to u (omega arith) (λ t l k. going p t l (omega arith))).so_far p;
         ends = λ t σ' p.
-            let i = steady functional P timed σ u atEnd t σ' p in
+            let i = steady functional P timed σ u at_end t σ' p in
             let q : Quiet f a (a + t) =
             creep f a (a + t)
             (λ n h q.
-            (launch-to n (omega (arith, i.0)) q).goes_on (still_before r (steady functional P timed σ) u atEnd t n σ' p (omega arith))
+            (launch-to n (omega (arith, i.0)) q).goes_on (still_before r (steady functional P timed σ) u at_end t n σ' p (omega arith))
             (a + n) (omega arith) (omega arith)) in
             (launch-to t i.0 q).ends t σ' (i.1 t (omega arith));
       }

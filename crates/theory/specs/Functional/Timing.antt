@@ -9,7 +9,7 @@ use Rattle.model.specs.Word.{pick}
 use borrow.Author.Tests.{lt-ltb, le-ltb}
 use Rattle.model.specs.Program.{Stmt, ok, tick, assign, assign_elem, seq, par, ite, while, repeat, loop, exit, call}
 use Rattle.model.specs.Circuit.{Sig}
-use Rattle.model.specs.Rules.{functional, Store, eval, put, over, kept, atEnd, ended, still, shows_at, run, due}
+use Rattle.model.specs.Rules.{functional, Store, eval, put, over, kept, at_end, ended, still, shows_at, run, due}
 use Rattle.theory.specs.Control.Wiring.{either}
 use Rattle.laws.specs.Refusals.Laws.{by_bool, by_le}
 use Rattle.laws.specs.Program.Fit.{Timed, Formed}
@@ -103,7 +103,7 @@ module _ (E : Tags) (P : Stmt) (timed : Timed P) (formed : Formed P) (σ : Store
   finish-at u l =
       by-ended P (calm-closed E P a s f v w B.calm) u σ
       (λ t σ' p.
-      let i = steady functional P timed σ u atEnd t σ' p in
+      let i = steady functional P timed σ u at_end t σ' p in
       let e : run functional t P σ ≡ ended t σ' = i.1 t (omega arith) in
       by_le u t
       (λ k.
@@ -118,7 +118,7 @@ module _ (E : Tags) (P : Stmt) (timed : Timed P) (formed : Formed P) (σ : Store
   -- right at the end, and from then on, the words handed on are the last ones
   pub words-after : (t : ℕ) (σ' : Store) → run functional t P σ ≡ ended t σ' → (u x : ℕ) → t ≤ u → a + u ≤ b → w (a + u) x ≡ σ' x
   words-after t σ' p u x o l =
-      let i = steady functional P timed σ t atEnd t σ' p in
+      let i = steady functional P timed σ t at_end t σ' p in
       ((up_to u l).ends t σ' (i.1 u o)).words (a + u) x (omega arith) (omega arith)
 
   -- and in the instant after, in which a new start may come, if the words in stay

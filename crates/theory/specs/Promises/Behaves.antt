@@ -16,7 +16,7 @@ use Rattle.model.specs.declared.Answer.{Answer}
 use Rattle.model.specs.Word.{index, element_word}
 use Rattle.model.specs.Program.{Stmt, Program, gap}
 use Rattle.model.specs.Procedures.{meaning}
-use Rattle.model.specs.Rules.{Costs, imperative, Store, Ends, atEnd, ended, run, due}
+use Rattle.model.specs.Rules.{Costs, imperative, Store, Ends, at_end, ended, run, due}
 use Rattle.model.specs.Circuit.{Netlist, Sig, Values, level, element, array_at, Obeys, memory_words}
 use Rattle.model.specs.Numbering.{netlist, array_cell, memory_at}
 use Rattle.model.specs.NetlistFile.{cells_of, net_of, finish_of}
@@ -60,7 +60,7 @@ refused-no-end e = omega (arith, ap ended-code e)
 
 module _ (κ : Costs) (P : Stmt) (timed : Timed P) where
   pub decides : (τ : Store) (k t : ℕ) (τ' : Store) → (run κ k P τ ≡ ended t τ') ↔ ((t ≤ k) × Ends κ P τ t τ')
-  decides τ k t τ' = ((λ p. ((steady κ P timed τ k atEnd t τ' p).0, run_ends κ P k τ t τ' p)), (λ h. ends-run κ P timed τ t τ' h.1 k h.0))
+  decides τ k t τ' = ((λ p. ((steady κ P timed τ k at_end t τ' p).0, run_ends κ P k τ t τ' p)), (λ h. ends-run κ P timed τ t τ' h.1 k h.0))
 
   pub at-end : (τ : Store) (t₀ : ℕ) (τ' : Store) → Ends κ P τ t₀ τ' → run κ t₀ P τ ≡ ended t₀ τ'
   at-end τ t₀ τ' h = (decides τ t₀ t₀ τ').1 (omega arith, h)

@@ -85,10 +85,10 @@ hubrun-is p v n =
 
 on-circuit : (c : Case) → computed c ≡ wanted c → fair c ≡ true → OnCircuit c
 unfolding computed wanted OnCircuit fair checked-of answer-of numbers_of text-of compile_call writing check_call written_verdict load
-on-circuit (ends p v n t w) e g = λ forFile forState f s.
+on-circuit (ends p v n t w) e g = λ for_file for_state f s.
     let b = and-true (bytes_only p) (ltb n 1000000) g in
     let r : reference_call defaults p (start v) n ≡ end_answer t w = ap (answer-of (end_answer t w)) e in
-    full-run-ended defaults p (start v) forFile forState n (bytes_of p b.0) (ap checked-of e) (omega arith) f s
+    full-run-ended defaults p (start v) for_file for_state n (bytes_of p b.0) (ap checked-of e) (omega arith) f s
     (omega (arith, ltb-true n 1000000 b.1)) (ap (λ (a : Answer). a.outcome) r) ∙ r
 on-circuit (refuses p k i) e g = λ lent.
     let c : check_call defaults p ≡ refuse k i = ap checked-of e in

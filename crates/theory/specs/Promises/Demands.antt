@@ -68,11 +68,11 @@ pub demand3 : Demand3
 unfolding program_of
 demand3 =
     record {
-      lists = λ F options program forFile words forState calls n f made begun.
-          let file = take n (compile_call options program forFile).lent in
-          keeps F (program_with options program) file words forState
-          (begins F options program file words forState (program-accepted options program forFile n f made) (file-made options program forFile n f made) begun) calls;
-      full_runs = λ options program forFile words forState n f made begun.
-          full_runs options program (take n (compile_call options program forFile).lent) words forState (program-accepted options program forFile n f made)
-          (file-made options program forFile n f made) begun forFile (file-fits options program forFile n f made);
+      lists = λ F options program for_file words for_state calls n f made begun.
+          let file = take n (compile_call options program for_file).lent in
+          keeps F (program_with options program) file words for_state
+          (begins F options program file words for_state (program-accepted options program for_file n f made) (file-made options program for_file n f made) begun) calls;
+      full_runs = λ options program for_file words for_state n f made begun.
+          full_runs options program (take n (compile_call options program for_file).lent) words for_state (program-accepted options program for_file n f made)
+          (file-made options program for_file n f made) begun for_file (file-fits options program for_file n f made);
     }

@@ -18,7 +18,7 @@ use Rattle.model.specs.Refusals.{number_of}
 use Rattle.model.specs.Program.{Program}
 use Rattle.model.specs.Procedures.{meaning}
 use Rattle.model.specs.ProgramChecks.{program_with}
-use Rattle.model.specs.Rules.{imperative, Store, Run, done, atEnd, at_exit, still, run}
+use Rattle.model.specs.Rules.{imperative, Store, Run, done, at_end, at_exit, still, run}
 use Rattle.model.specs.Circuit.{Netlist, Sig, Values, high, memory_words, Obeys}
 use Rattle.model.specs.NetlistFile.{cells_of, net_of, finish_of}
 use Rattle.model.specs.State.{instant_of, state_size, now_at, words_in}
@@ -82,7 +82,7 @@ unmet-refused k st h e = h e
 module _ (w : ℕ) (rules : Runs) (size : ℕ) where
   unmet-pulsed : (st : Stand) (r : Run) → Unmet (pulsed w rules st r).tells
   unfolding pulsed
-  unmet-pulsed st (done atEnd t σ) = go (ltb 1 w && due_at w rules st st.now)
+  unmet-pulsed st (done at_end t σ) = go (ltb 1 w && due_at w rules st st.now)
     where
       go : (b : Bool) → Unmet (elim b as (λ z. Next) [ true ↦ refuses 23 st | false ↦ anew w rules st σ ]).tells
       go true = unmet-refused 23 st (λ e. omega arith)
@@ -205,7 +205,7 @@ module _ (net : Netlist) (σ : Store) (W : Values) where
 
 -- The promise ----------------------------------------------------------------------------------------------------------------------------
 
-module _ (S : Program) (file words forFull forCompact : List ℕ) (B : Begun Full S file words forFull) (C : Begun Compact S file words forCompact)
+module _ (S : Program) (file words for_full for_compact : List ℕ) (B : Begun Full S file words for_full) (C : Begun Compact S file words for_compact)
     (cs : List Twice) (fair : Fair (state_size Full (net_of file)) (state_size Compact (net_of file)) cs) where
   abbrev w : ℕ
   w = S.pulse
@@ -248,15 +248,15 @@ module _ (S : Program) (file words forFull forCompact : List ℕ) (B : Begun Ful
       subst (λ (l : List Stand). Given w rules (state_size Compact net) (starts_of l) (stand 0 σ 0) (on_compact cs)) same-sts
       (given-first w rules (state_size Compact net) σ (on_compact cs))
 
-  shown-full : Along (Shown net σ W Full) (sts Full (on_full cs)) (calls Full forFull (on_full cs))
+  shown-full : Along (Shown net σ W Full) (sts Full (on_full cs)) (calls Full for_full (on_full cs))
   shown-full =
-      along Full S file words forFull B starts W obeys (on_full cs) (given-first w rules (state_size Full net) σ (on_full cs)) first-pulse
+      along Full S file words for_full B starts W obeys (on_full cs) (given-first w rules (state_size Full net) σ (on_full cs)) first-pulse
       (Shown net σ W Full) (λ st cs N k b l H. shown-refused net σ W Full st k b l H) (λ st cs N s b n l H K. shown-answer net σ W Full file refl st s b n l H K)
 
-  shown-compact : Along (Shown net σ W Compact) (sts Full (on_full cs)) (calls Compact forCompact (on_compact cs))
+  shown-compact : Along (Shown net σ W Compact) (sts Full (on_full cs)) (calls Compact for_compact (on_compact cs))
   shown-compact =
-      subst (λ (l : List Stand). Along (Shown net σ W Compact) l (calls Compact forCompact (on_compact cs))) same-sts
-      (along Compact S file words forCompact C starts W obeys (on_compact cs) given-compact first-pulse
+      subst (λ (l : List Stand). Along (Shown net σ W Compact) l (calls Compact for_compact (on_compact cs))) same-sts
+      (along Compact S file words for_compact C starts W obeys (on_compact cs) given-compact first-pulse
       (Shown net σ W Compact) (λ st cs N k b l H. shown-refused net σ W Compact st k b l H) (λ st cs N s b n l H K. shown-answer net σ W Compact file refl st s b n l H K))
 
   abbrev tells_of : Format → List Call → List Seen
@@ -270,18 +270,18 @@ module _ (S : Program) (file words forFull forCompact : List ℕ) (B : Begun Ful
   unmet : AllUnmet (tells_of Compact (on_compact cs))
   unmet = (unmet-ended (due_at w rules (stand 0 σ 0) 0) 0 1, all-unmet w rules (state_size Compact net) (on_compact cs) (stand 0 σ 0))
 
-  both-same : AllSame net (calls Full forFull (on_full cs)) (calls Compact forCompact (on_compact cs))
+  both-same : AllSame net (calls Full for_full (on_full cs)) (calls Compact for_compact (on_compact cs))
   both-same =
-      let full = told Full S file words forFull B (on_full cs) in
-      let compact = told Compact S file words forCompact C (on_compact cs) in
-      all_same net σ W B.of_program.of_file.ordered (sts Full (on_full cs)) (calls Full forFull (on_full cs)) (calls Compact forCompact (on_compact cs)) shown-full shown-compact (full ∙ same-tells ∙ sym compact)
+      let full = told Full S file words for_full B (on_full cs) in
+      let compact = told Compact S file words for_compact C (on_compact cs) in
+      all_same net σ W B.of_program.of_file.ordered (sts Full (on_full cs)) (calls Full for_full (on_full cs)) (calls Compact for_compact (on_compact cs)) shown-full shown-compact (full ∙ same-tells ∙ sym compact)
       (subst AllUnmet (sym compact) unmet)
 
 pub same-wires : SameWires
 unfolding SameWires
-same-wires options program forFile words forFull forCompact calls n f made full compact fair =
-    let file = take n (compile_call options program forFile).lent in
-    let good = program-accepted options program forFile n f made in
-    let written = file-made options program forFile n f made in
-    both-same (program_with options program) file words forFull forCompact (begins Full options program file words forFull good written full)
-    (begins Compact options program file words forCompact good written compact) calls fair
+same-wires options program for_file words for_full for_compact calls n f made full compact fair =
+    let file = take n (compile_call options program for_file).lent in
+    let good = program-accepted options program for_file n f made in
+    let written = file-made options program for_file n f made in
+    both-same (program_with options program) file words for_full for_compact (begins Full options program file words for_full good written full)
+    (begins Compact options program file words for_compact good written compact) calls fair

@@ -21,7 +21,7 @@ use Rattle.model.specs.Refusals.{first}
 use Rattle.model.specs.Program.{Stmt, Program}
 use Rattle.model.specs.Procedures.{meaning}
 use Rattle.model.specs.ProgramChecks.{program_with}
-use Rattle.model.specs.Rules.{imperative, Store, ended, still, run, shows_at, due, atEnd}
+use Rattle.model.specs.Rules.{imperative, Store, ended, still, run, shows_at, due, at_end}
 use Rattle.model.specs.Circuit.{Netlist, Sig, Values, high, level, Obeys}
 use Rattle.model.specs.Numbering.{memory_at}
 use Rattle.model.specs.NetlistFile.{cells_of, net_of, finish_of}
@@ -155,31 +155,31 @@ module _ (options : Options) (program file words lent : List ℕ) (accepted : ch
       full-run file words lent n
       (ap (λ (r : Returned Answer). verdict r.answer.outcome) (netlist-run n l) ∙ no-refusal (high (now_at Full (left n) fin)))
 
-  program_runs : (forFile : List ℕ) → ltb (length forFile) (length (compiled_file options program)) ≡ false → (n : ℕ) → n ≤ 1000000
-      → run_program_call options program words n forFile lent ≡ record { answer = whole_run n; netlist = overwrite file forFile; state = left n }
+  program_runs : (for_file : List ℕ) → ltb (length for_file) (length (compiled_file options program)) ≡ false → (n : ℕ) → n ≤ 1000000
+      → run_program_call options program words n for_file lent ≡ record { answer = whole_run n; netlist = overwrite file for_file; state = left n }
   unfolding run_program_call running writing whole_run check_call
-  program_runs forFile fits n l =
+  program_runs for_file fits n l =
       let room : ltb (length lent) (state_size Full (net_of (compiled_file options program))) ≡ false =
       subst (λ (s : List ℕ). ltb (length lent) (state_size Full (net_of s)) ≡ false) e B.state-fits in
-      let checks : first (run_program_checks options program words n forFile lent) ≡ Accepted =
-      first-drop 2 (run_program_checks options program words n forFile lent) accepted ∙ rw (le-ltb 1000000 n l, B.words-fit, fits, room) refl in
+      let checks : first (run_program_checks options program words n for_file lent) ≡ Accepted =
+      first-drop 2 (run_program_checks options program words n for_file lent) accepted ∙ rw (le-ltb 1000000 n l, B.words-fit, fits, room) refl in
       ap₂
       (λ (c : Checked) (s : List ℕ).
       let r = running Full c s (full_state s words n lent) (full_count s words n lent) lent in
-      record { answer = r.answer; netlist = (writing c s (length s) 0 forFile).lent; state = r.lent })
+      record { answer = r.answer; netlist = (writing c s (length s) 0 for_file).lent; state = r.lent })
       checks (sym e)
 
-  pub program-run : (forFile : List ℕ) → ltb (length forFile) (length (compiled_file options program)) ≡ false → (n : ℕ) → n ≤ 1000000
-      → (run_program_call options program words n forFile lent).answer ≡ whole_run n
-  program-run forFile fits n l = ap (λ (r : ReturnedBoth). r.answer) (program_runs forFile fits n l)
+  pub program-run : (for_file : List ℕ) → ltb (length for_file) (length (compiled_file options program)) ≡ false → (n : ℕ) → n ≤ 1000000
+      → (run_program_call options program words n for_file lent).answer ≡ whole_run n
+  program-run for_file fits n l = ap (λ (r : ReturnedBoth). r.answer) (program_runs for_file fits n l)
 
-  pub full_runs : (forFile : List ℕ) → ltb (length forFile) (length (compiled_file options program)) ≡ false
-      → FullRuns file forFile (begin_call Full file words lent) (λ k. run_program_call options program words k forFile lent) (λ k. run_netlist_call file words k lent)
-  full_runs forFile fits =
+  pub full_runs : (for_file : List ℕ) → ltb (length for_file) (length (compiled_file options program)) ≡ false
+      → FullRuns file for_file (begin_call Full file words lent) (λ k. run_program_call options program words k for_file lent) (λ k. run_netlist_call file words k lent)
+  full_runs for_file fits =
       record {
         program_runs = λ n l.
-            program_runs forFile fits n l
-            ∙ ap (λ (r : Returned Answer). record { answer = r.answer; netlist = overwrite file forFile; state = r.lent }) (sym (netlist-run n l) ∙ whole_is n l);
+            program_runs for_file fits n l
+            ∙ ap (λ (r : Returned Answer). record { answer = r.answer; netlist = overwrite file for_file; state = r.lent }) (sym (netlist-run n l) ∙ whole_is n l);
         netlist_runs = whole_is;
       }
 
@@ -215,12 +215,12 @@ module _ (options : Options) (program file words lent : List ℕ) (accepted : ch
   -- where the rules end within the budget, they give the same answer
   module _ (n t : ℕ) (l : n ≤ 1000000) (σ' : Store) (p : run (imperative S.pulse) n P σ ≡ ended t σ') where
     steadily : (t ≤ n) × ((k : ℕ) → t ≤ k → run (imperative S.pulse) k P σ ≡ ended t σ')
-    steadily = steady (imperative S.pulse) P timed σ n atEnd t σ' p
+    steadily = steady (imperative S.pulse) P timed σ n at_end t σ' p
 
     -- the finish rises at the end
     low-before : (u : ℕ) → u < t → level W₁ fin u ≡ false
     unfolding due shows_at
-    low-before u x = finishes u ∙ ap (shows_at w u) (still_before (λ k. run (imperative S.pulse) k P σ) (steady (imperative S.pulse) P timed σ) n atEnd t u σ' p x)
+    low-before u x = finishes u ∙ ap (shows_at w u) (still_before (λ k. run (imperative S.pulse) k P σ) (steady (imperative S.pulse) P timed σ) n at_end t u σ' p x)
 
     high-at : level W₁ fin t ≡ true
     unfolding due shows_at

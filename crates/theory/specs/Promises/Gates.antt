@@ -137,9 +137,9 @@ start-same words t = go (ℕ_discrete t 0)
     go (yes e) = rw (eq-eqb 0 t (sym e), eq-eqb t 0 e) refl
     go (no x) = rw (ne_eqb 0 t (λ e. x (sym e)), ne_eqb t 0 x) refl
 
-module _ (options : Options) (program words : List ℕ) (n : ℕ) (forFile forState forValues forWork : List ℕ) (bytes : Bytes program)
-    (checks : first (run_program_checks (with_pulse 1 options) program words n forFile forState) ≡ Accepted)
-    (checks₂ : first (slow_run_checks options program words n forValues forWork) ≡ Accepted) where
+module _ (options : Options) (program words : List ℕ) (n : ℕ) (for_file for_state for_values for_work : List ℕ) (bytes : Bytes program)
+    (checks : first (run_program_checks (with_pulse 1 options) program words n for_file for_state) ≡ Accepted)
+    (checks₂ : first (slow_run_checks options program words n for_values for_work) ≡ Accepted) where
   -- a full run with pulses of 1
   abbrev at : Options
   at = with_pulse 1 options
@@ -154,27 +154,27 @@ module _ (options : Options) (program words : List ℕ) (n : ℕ) (forFile forSt
   σ = word_at words
 
   accepted : check_call at program ≡ Accepted
-  accepted = accepts at program words n forFile forState bytes checks
+  accepted = accepts at program words n for_file for_state bytes checks
 
-  begun : verdict (begin_call Full file words forState).answer.outcome ≡ Accepted
-  begun = begins at program words n forFile forState bytes checks
+  begun : verdict (begin_call Full file words for_state).answer.outcome ≡ Accepted
+  begun = begins at program words n for_file for_state bytes checks
 
   budget : n ≤ 1000000
-  budget = ltb-false 1000000 n (refuse-unless _ 13 0 (all-accept (run_program_checks at program words n forFile forState) checks 2))
+  budget = ltb-false 1000000 n (refuse-unless _ 13 0 (all-accept (run_program_checks at program words n for_file for_state) checks 2))
 
   X : OfProgram S₁ file
-  X = (B at program file words forState accepted refl begun).of_program
+  X = (B at program file words for_state accepted refl begun).of_program
 
   -- the ideal values and the slow ones
   W : Values
-  W = W₁ at program file words forState accepted refl begun
+  W = W₁ at program file words for_state accepted refl begun
 
   ideal-obeys : Obeys (circuit_of S₁) first_start σ W
   unfolding W stands
   ideal-obeys =
       subst (λ (starts : Sig). Obeys (circuit_of S₁) starts σ W) (λ i t. start-same σ t i)
-      (published S₁ file X (starts₁ at program file words forState accepted refl begun) σ W
-      (obeys₁ at program file words forState accepted refl begun))
+      (published S₁ file X (starts₁ at program file words for_state accepted refl begun) σ W
+      (obeys₁ at program file words for_state accepted refl begun))
 
   U : Values
   U = slowly (time_in options.times) S₁ σ
@@ -190,7 +190,7 @@ module _ (options : Options) (program words : List ℕ) (n : ℕ) (forFile forSt
   stops : end_at (level U (finish S₁)) 0 n ≡ pick (level W (finish_of file) 0) 0 (stops_at (level W (finish_of file)) 0 n)
   stops = end_same _ _ fin 0 n ∙ end_is (level W (finish_of file)) n
 
-  pub same_answer : (slow_run_call options program words n forValues forWork).answer ≡ (run_program_call at program words n forFile forState).answer
+  pub same_answer : (slow_run_call options program words n for_values for_work).answer ≡ (run_program_call at program words n for_file for_state).answer
   unfolding slow_run_call slow_running slow_answer U W accepted begun
   same_answer =
       let t = pick (level W (finish_of file) 0) 0 (stops_at (level W (finish_of file)) 0 n) in
@@ -200,8 +200,8 @@ module _ (options : Options) (program words : List ℕ) (n : ℕ) (forFile forSt
       ∙ listed_same _ _ 0 16 (λ x a b. words_same at refl program bytes accepted σ W U ideal-obeys slow-obeys x t (omega arith)) in
       rw (checks₂, stops)
       ((λ i. record { outcome = o i; instant = t; count = t + 1; words = w i })
-      ∙ sym (run-values at program file words forState accepted refl begun n budget)
-      ∙ sym (full_is at program words n forFile forState bytes checks))
+      ∙ sym (run-values at program file words for_state accepted refl begun n budget)
+      ∙ sym (full_is at program words n for_file for_state bytes checks))
 
 -- The promise -------------------------------------------------------------------------------------------------------------------------------
 
@@ -212,13 +212,13 @@ gates =
       obeys = λ T k program words bytes e. slowly-obeys (load (beside T k 1)) refl program bytes e words;
       only = λ T k program words bytes e. slowly-only (load (beside T k 1)) refl program bytes e words;
       agree = λ T k program words bytes e W U h h'. agree (load (beside T k 1)) refl program bytes e words W U h h';
-      answers = λ T k w program words n forFile forState forValues forWork bytes v v'.
+      answers = λ T k w program words n for_file for_state for_values for_work bytes v v'.
           let given = load (beside T k w) in
           let file = compiled_file (load (beside T k 1)) program in
-          same_answer given program words n forFile forState forValues forWork bytes
+          same_answer given program words n for_file for_state for_values for_work bytes
           (unfold run_program_call in
-          ran Full (first (run_program_checks (load (beside T k 1)) program words n forFile forState)) file (full_state file words n forState)
-          (full_count file words n forState) forState v)
+          ran Full (first (run_program_checks (load (beside T k 1)) program words n for_file for_state)) file (full_state file words n for_state)
+          (full_count file words n for_state) for_state v)
           (unfold slow_run_call in
-          sym (slow-verdict (first (slow_run_checks given program words n forValues forWork)) given program words n forValues forWork) ∙ v');
+          sym (slow-verdict (first (slow_run_checks given program words n for_values for_work)) given program words n for_values for_work) ∙ v');
     }

@@ -52,24 +52,24 @@ ran F Accepted file s n lent e = refl
 ran F (Checked.Refused r) file s n lent e = e
 
 -- what compiling wrote
-module _ (options : Options) (program forFile : List ℕ) (n f : ℕ) (done : (compile_call options program forFile).answer ≡ Done n f) where
-  pub compiled : Wrote (first (compile_checks options program forFile)) (compiled_file options program) (length (compiled_file options program)) (finish (program_with options program)) forFile n f
+module _ (options : Options) (program for_file : List ℕ) (n f : ℕ) (done : (compile_call options program for_file).answer ≡ Done n f) where
+  pub compiled : Wrote (first (compile_checks options program for_file)) (compiled_file options program) (length (compiled_file options program)) (finish (program_with options program)) for_file n f
   unfolding compile_call
   compiled =
-      wrote (first (compile_checks options program forFile)) (compiled_file options program) (length (compiled_file options program)) (finish (program_with options program)) forFile n f done
+      wrote (first (compile_checks options program for_file)) (compiled_file options program) (length (compiled_file options program)) (finish (program_with options program)) for_file n f done
 
   pub program-accepted : check_call options program ≡ Accepted
   unfolding check_call
-  program-accepted = accept-take 2 (compile_checks options program forFile) compiled.accepted
+  program-accepted = accept-take 2 (compile_checks options program for_file) compiled.accepted
 
-  pub file-fits : ltb (length forFile) (length (compiled_file options program)) ≡ false
-  file-fits = refuse-unless _ 14 0 (all-accept (compile_checks options program forFile) compiled.accepted 2)
+  pub file-fits : ltb (length for_file) (length (compiled_file options program)) ≡ false
+  file-fits = refuse-unless _ 14 0 (all-accept (compile_checks options program for_file) compiled.accepted 2)
 
-  pub file-made : take n (compile_call options program forFile).lent ≡ compiled_file options program
+  pub file-made : take n (compile_call options program for_file).lent ≡ compiled_file options program
   unfolding compile_call
   file-made =
       ap₂ (λ (k : ℕ) (r : Returned Written). take k r.lent) compiled.count compiled.told
-      ∙ take-append_seam (compiled_file options program) (drop (length (compiled_file options program)) forFile)
+      ∙ take-append_seam (compiled_file options program) (drop (length (compiled_file options program)) for_file)
 
 -- A beginning --------------------------------------------------------------------------------------------------------------------------
 

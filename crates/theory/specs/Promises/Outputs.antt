@@ -16,7 +16,7 @@ use Rattle.model.specs.declared.Refusal.{Refusal}
 use Rattle.model.specs.Word.{get32, Bytes}
 use Rattle.model.specs.Refusals.{first}
 use Rattle.model.specs.Program.{time_in}
-use Rattle.model.specs.Rules.{atEnd, at_exit, Run, done, still}
+use Rattle.model.specs.Rules.{at_end, at_exit, Run, done, still}
 use Rattle.model.specs.ProgramChecks.{check_of}
 use Rattle.model.specs.TimeTables.{defaults, given_check}
 use Rattle.model.specs.TextCalls.{text_program, text_checks, read_text_checks, read_text_call}
@@ -60,7 +60,7 @@ not-open e = not-refused (ap verdict e)
 -- the rules refuse nothing
 rules-accept : (n : ℕ) (r : Run) → verdict (reference_answer n r).outcome ≡ Accepted
 unfolding reference_answer verdict
-rules-accept n (done atEnd t σ) = refl
+rules-accept n (done at_end t σ) = refl
 rules-accept n (done at_exit t σ) = refl
 rules-accept n still = refl
 

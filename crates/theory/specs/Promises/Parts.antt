@@ -161,26 +161,26 @@ join-published O ps lent n f y made =
     let same = join-same O ps lent e in
     rw (same, ← whole_is O ps e) (demand2.compiled (beside_whole O ps) (whole_program ps) lent n f (whole-bytes ps y) (rw same at made))
 
-join-keeps : (F : Format) (O : Options) (ps : List Part) (forFile words forState : List ℕ) (calls : List Call) (n f : ℕ)
-    → (join_call O ps forFile).answer ≡ Done n f →
-    let file = take n (join_call O ps forFile).lent in
-    let begun = begin_call F file words forState in
+join-keeps : (F : Format) (O : Options) (ps : List Part) (for_file words for_state : List ℕ) (calls : List Call) (n f : ℕ)
+    → (join_call O ps for_file).answer ≡ Done n f →
+    let file = take n (join_call O ps for_file).lent in
+    let begun = begin_call F file words for_state in
     verdict begun.answer.outcome ≡ Accepted → Keeps F (part_at ps 0).pulse (meaning (joined_program ps)) (word_at words) file begun calls
-join-keeps F O ps forFile words forState calls n f made =
-    let e = done-accepted O ps forFile n f made in
-    let same = join-same O ps forFile e in
-    rw (same, ← whole_is O ps e) (λ begun. demand3.lists F (beside_whole O ps) (whole_program ps) forFile words forState calls n f (rw same at made) begun)
+join-keeps F O ps for_file words for_state calls n f made =
+    let e = done-accepted O ps for_file n f made in
+    let same = join-same O ps for_file e in
+    rw (same, ← whole_is O ps e) (λ begun. demand3.lists F (beside_whole O ps) (whole_program ps) for_file words for_state calls n f (rw same at made) begun)
 
-join_runs : (O : Options) (ps : List Part) (forFile words forState : List ℕ) (n f : ℕ) → (join_call O ps forFile).answer ≡ Done n f →
-    let file = take n (join_call O ps forFile).lent in
-    let begun = begin_call Full file words forState in
+join_runs : (O : Options) (ps : List Part) (for_file words for_state : List ℕ) (n f : ℕ) → (join_call O ps for_file).answer ≡ Done n f →
+    let file = take n (join_call O ps for_file).lent in
+    let begun = begin_call Full file words for_state in
     verdict begun.answer.outcome ≡ Accepted
-    → FullRuns file forFile begun (λ k. run_program_call (beside_whole O ps) (whole_program ps) words k forFile forState)
-    (λ k. run_netlist_call file words k forState)
-join_runs O ps forFile words forState n f made =
-    let e = done-accepted O ps forFile n f made in
-    let same = join-same O ps forFile e in
-    rw same (λ begun. demand3.full_runs (beside_whole O ps) (whole_program ps) forFile words forState n f (rw same at made) begun)
+    → FullRuns file for_file begun (λ k. run_program_call (beside_whole O ps) (whole_program ps) words k for_file for_state)
+    (λ k. run_netlist_call file words k for_state)
+join_runs O ps for_file words for_state n f made =
+    let e = done-accepted O ps for_file n f made in
+    let same = join-same O ps for_file e in
+    rw same (λ begun. demand3.full_runs (beside_whole O ps) (whole_program ps) for_file words for_state n f (rw same at made) begun)
 
 pub joins : Joins
 joins =

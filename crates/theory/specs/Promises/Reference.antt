@@ -13,7 +13,7 @@ use Rattle.model.specs.Refusals.{first}
 use Rattle.model.specs.Program.{program_of, Stmt}
 use Rattle.model.specs.Procedures.{inlined, meaning}
 use Rattle.model.specs.ProgramChecks.{program_with}
-use Rattle.model.specs.Rules.{imperative, Store, Ends, run, atEnd}
+use Rattle.model.specs.Rules.{imperative, Store, Ends, run, at_end}
 use Rattle.model.specs.Circuit.{high}
 use Rattle.model.specs.NetlistFile.{net_of, finish_of}
 use Rattle.model.specs.State.{state_size, now_at, begin_state}
@@ -64,7 +64,7 @@ module _ (options : Options) (program words : List ℕ) (n : ℕ) (answered-so :
   pub reference-ended : (reference_call options program words n).outcome ≡ Ended → (t : ℕ) × (σ' : Store) × (t ≤ n) × Ends (imperative options.pulse) P σ t σ'
   unfolding reference_answer
   reference-ended e =
-      by_runs (run (imperative options.pulse) n P σ) (λ t σ' p. (t, σ', (steady (imperative options.pulse) P (meaning-timed (program_with options program) (program-admitted options program passes)) σ n atEnd t σ' p).0, run_ends (imperative options.pulse) P n σ t σ' p))
+      by_runs (run (imperative options.pulse) n P σ) (λ t σ' p. (t, σ', (steady (imperative options.pulse) P (meaning-timed (program_with options program) (program-admitted options program passes)) σ n at_end t σ' p).0, run_ends (imperative options.pulse) P n σ t σ' p))
       (λ t σ' p. never-leaves (imperative options.pulse) P (meaning-closed (program_with options program) (program-admitted options program passes)) n t σ σ' p)
       (λ p. absurd (open-no-end (sym (ap (λ (a : Answer). a.outcome) (called.1 ∙ ap (reference_answer n) p)) ∙ e)))
 
@@ -79,23 +79,23 @@ module _ (options : Options) (program words : List ℕ) (n : ℕ) (answered-so :
 
 -- A full run and a reference run -------------------------------------------------------------------------------------------------------
 
-module _ (options : Options) (program words : List ℕ) (n : ℕ) (forFile lent : List ℕ) (bytes : Bytes program)
-    (checks : first (run_program_checks options program words n forFile lent) ≡ Accepted) where
+module _ (options : Options) (program words : List ℕ) (n : ℕ) (for_file lent : List ℕ) (bytes : Bytes program)
+    (checks : first (run_program_checks options program words n for_file lent) ≡ Accepted) where
   abbrev file : List ℕ
   file = compiled_file options program
 
   pub accepts : check_call options program ≡ Accepted
   unfolding check_call
-  accepts = accept-take 2 (run_program_checks options program words n forFile lent) checks
+  accepts = accept-take 2 (run_program_checks options program words n for_file lent) checks
 
   budget : ltb 1000000 n ≡ false
-  budget = refuse-unless _ 13 0 (all-accept (run_program_checks options program words n forFile lent) checks 2)
+  budget = refuse-unless _ 13 0 (all-accept (run_program_checks options program words n for_file lent) checks 2)
 
   words-fit : ltb (length words) 544 ≡ false
-  words-fit = refuse-unless _ 14 0 (all-accept (run_program_checks options program words n forFile lent) checks 3)
+  words-fit = refuse-unless _ 14 0 (all-accept (run_program_checks options program words n for_file lent) checks 3)
 
   state-fits : ltb (length lent) (state_size Full (net_of file)) ≡ false
-  state-fits = refuse-unless _ 14 0 (all-accept (run_program_checks options program words n forFile lent) checks 5)
+  state-fits = refuse-unless _ 14 0 (all-accept (run_program_checks options program words n for_file lent) checks 5)
 
   pub begins : verdict (begin_call Full file words lent).answer.outcome ≡ Accepted
   unfolding begin_call running shows is_too_long
@@ -104,15 +104,15 @@ module _ (options : Options) (program words : List ℕ) (n : ℕ) (forFile lent 
       (no-refusal (high (now_at Full (begin_state Full (net_of file) (word_at words) lent) (finish_of file))))
 
   abbrev full : Answer
-  full = (run_program_call options program words n forFile lent).answer
+  full = (run_program_call options program words n for_file lent).answer
 
   abbrev reference : Answer
   reference = reference_call options program words n
 
   pub full_is : full ≡ whole_run options program file words lent accepts refl begins n
   full_is =
-      program-run options program file words lent accepts refl begins forFile
-      (refuse-unless _ 14 0 (all-accept (run_program_checks options program words n forFile lent) checks 4)) n (ltb-false 1000000 n budget)
+      program-run options program file words lent accepts refl begins for_file
+      (refuse-unless _ 14 0 (all-accept (run_program_checks options program words n for_file lent) checks 4)) n (ltb-false 1000000 n budget)
 
   reference-is : reference ≡ reference_answer n (run (imperative options.pulse) n (meaning (program_with options program)) (word_at words))
   unfolding reference_call answering check_call
@@ -156,9 +156,9 @@ programs =
       never_left = λ options program e.
           let S = program_with options program in
           never-left (imperative options.pulse) (meaning S) (meaning-closed S (program-admitted options program e));
-      agree = λ options program words n forFile lent y v.
+      agree = λ options program words n for_file lent y v.
           let file = compiled_file options program in
-          same-answers options program words n forFile lent y
+          same-answers options program words n for_file lent y
           (unfold run_program_call in
-          ran Full (first (run_program_checks options program words n forFile lent)) file (full_state file words n lent) (full_count file words n lent) lent v);
+          ran Full (first (run_program_checks options program words n for_file lent)) file (full_state file words n lent) (full_count file words n lent) lent v);
     }

@@ -37,7 +37,7 @@ use Rattle.theory.specs.State.Flight.{same-holds, number-zero}
 use Rattle.theory.specs.State.Step.{step-holds, step-length}
 use Rattle.theory.specs.State.Sound.{sound-held, holds}
 use Rattle.theory.specs.State.Running.{continues, stops-high, stops-low, stops-ge, stops-le}
-use Rattle.theory.specs.Promises.Stands.{anew as anewOf, next-short, next-long, stopped, continues-late, continues-now, start-late, start-now, Given, given-on, given-pulse, given-anew}
+use Rattle.theory.specs.Promises.Stands.{anew as anew_of, next-short, next-long, stopped, continues-late, continues-now, start-late, start-now, Given, given-on, given-pulse, given-anew}
 
 -- Calls ---------------------------------------------------------------------------------------------------------------------------------
 
@@ -420,7 +420,7 @@ module _ (F : Format) (κ : Costs) (w : ℕ) (P : Stmt) (anew : Store → Store)
           unfolding pulsed
           start-waits e σ p z =
               start-refused 23 (only-busy true (ap (λ (b : Bool). ltb 0 (flight_of U) || b) (waits-is ∙ z) ∙ or-true (ltb 0 (flight_of U))))
-              (is-pulsed ∙ ap (pulsed w rules st) p ∙ ap (λ (b : Bool). elim b as (λ z. Next) [ true ↦ refuses 23 st | false ↦ anewOf w rules st σ ]) z)
+              (is-pulsed ∙ ap (pulsed w rules st) p ∙ ap (λ (b : Bool). elim b as (λ z. Next) [ true ↦ refuses 23 st | false ↦ anew_of w rules st σ ]) z)
 
           -- while something is in flight
           start-busy : run_at rules st st.now ≡ still → Good st s (pulse ∷ cs) (replay_by mode.reply s (pulse ∷ cs))
@@ -432,7 +432,7 @@ module _ (F : Format) (κ : Costs) (w : ℕ) (P : Stmt) (anew : Store → Store)
           -- a new run
           module _ (e : ℕ) (σ : Store) (p : run_at rules st st.now ≡ ended e σ) (z : (ltb 1 w && due_at w rules st st.now) ≡ false) where
             abbrev next-run : Stand
-            next-run = (anewOf w rules st σ).after
+            next-run = (anew_of w rules st σ).after
 
             own : (e ≤ st.now - st.begun) × (run κ e P st.from ≡ ended e σ)
             own = ended-own st.from (st.now - st.begun) e σ p
@@ -447,10 +447,10 @@ module _ (F : Format) (κ : Costs) (w : ℕ) (P : Stmt) (anew : Store → Store)
                 let q : ltb (st.now - st.begun) (e + w) ≡ false = rw (lt-ltb 1 w l, p) at z in
                 omega (arith, gap-wide w l, ltb-false (st.now - st.begun) (e + w) q, N.given.since))
 
-            next-anew : next w rules size st pulse ≡ anewOf w rules st σ
+            next-anew : next w rules size st pulse ≡ anew_of w rules st σ
             unfolding pulsed
             next-anew =
-                is-pulsed ∙ ap (pulsed w rules st) p ∙ ap (λ (b : Bool). elim b as (λ z. Next) [ true ↦ refuses 23 st | false ↦ anewOf w rules st σ ]) z
+                is-pulsed ∙ ap (pulsed w rules st) p ∙ ap (λ (b : Bool). elim b as (λ z. Next) [ true ↦ refuses 23 st | false ↦ anew_of w rules st σ ]) z
 
             after-anew : (next w rules size st pulse).after ≡ next-run
             after-anew = ap (λ (y : Next). y.after) next-anew

@@ -44,34 +44,34 @@ module _ (options : Options) (program : List ℕ) (bytes : Bytes program) (accep
 
 -- A full run with room -----------------------------------------------------------------------------------------------------------------
 
-module _ (options : Options) (program words forFile forState : List ℕ) (n : ℕ) (bytes : Bytes program) (accepted : check_call options program ≡ Accepted)
-    (some : 544 ≤ length words) (f : 6656 ≤ length forFile) (s : 41480 ≤ length forState) (l : n ≤ 1000000) where
+module _ (options : Options) (program words for_file for_state : List ℕ) (n : ℕ) (bytes : Bytes program) (accepted : check_call options program ≡ Accepted)
+    (some : 544 ≤ length words) (f : 6656 ≤ length for_file) (s : 41480 ≤ length for_state) (l : n ≤ 1000000) where
   abbrev file : List ℕ
   file = compiled_file options program
 
   abbrev read : file_check file ≡ Accepted
   read = file-read options program bytes accepted
 
-  state-room : state_size Full (net_of file) ≤ length forState
+  state-room : state_size Full (net_of file) ≤ length for_state
   state-room =
       let S = program_with options program in
       let r = net-room options program bytes accepted in
       rw (cells-written options.pulse (netlist S) (finish S) (omega (arith, r.0))) (omega (arith, r.1))
 
-  pub checks : first (run_program_checks options program words n forFile forState) ≡ Accepted
+  pub checks : first (run_program_checks options program words n for_file for_state) ≡ Accepted
   unfolding check_call
   checks =
       rw (
-        first-drop 2 (run_program_checks options program words n forFile forState) accepted,
+        first-drop 2 (run_program_checks options program words n for_file for_state) accepted,
         le-ltb 1000000 n l,
         le-ltb (length words) 544 some,
-        le-ltb (length forFile) (length file) (omega (arith, file-room options program bytes accepted)),
-        le-ltb (length forState) (state_size Full (net_of file)) state-room,
+        le-ltb (length for_file) (length file) (omega (arith, file-room options program bytes accepted)),
+        le-ltb (length for_state) (state_size Full (net_of file)) state-room,
       )
 
   -- where the reference run says that it ended, the two answer the same
   pub full-run-ended : (reference_call options program words n).outcome ≡ Ended
-      → (run_program_call options program words n forFile forState).answer ≡ reference_call options program words n
+      → (run_program_call options program words n for_file for_state).answer ≡ reference_call options program words n
   full-run-ended h =
-      let a = same-answers options program words n forFile forState bytes checks in
+      let a = same-answers options program words n for_file for_state bytes checks in
       a.1 (ap (λ (s : Seen). s.outcome) a.0 ∙ h)

@@ -17,7 +17,7 @@ use Rattle.model.specs.Word.{pick, bit, is_zero, operate}
 use Rattle.model.specs.Program.{Code, Program, roots, array_var}
 use Rattle.model.specs.Procedures.{body_at}
 use Rattle.model.specs.Circuit.{cell, cell_at, array_at, Values, Elements, level, element, memory, merge_step, return_step, start_word, Shape, cell_table, shape, control, equation, Obeys}
-use Rattle.model.specs.Circuit.{kConstant, kComplement, kOperator, kStart, kGround, kDelay, kOr, kWhenTrue, kWhenFalse, kMerge, kReturn, kMemory, kGated, kArray, kAddress, kRead, kLatch, kUnknown}
+use Rattle.model.specs.Circuit.{k_constant, k_complement, k_operator, k_start, k_ground, k_delay, k_or, k_when_true, k_when_false, k_merge, k_return, k_memory, k_gated, k_array, k_address, k_read, k_latch, k_unknown}
 use Rattle.model.specs.Numbering.{Source, wires_of, memory_wires, circuit_of, array_cell, or_chain, or_chain_out, ors, ors_out, or_count, ors_from, outs_from, past_root, memories_of, arrays_of, calls_of, clocks_of, data_of, addresses_of, procedures, finish_of_root, netlist, clock_at, memory_at, arrays_at, walk_place, data_at, address_at, clock_wires, data_wires, address_wires}
 use Rattle.model.specs.CircuitPromises.{NoStart}
 use Rattle.model.specs.Gates.{first_start, slow_cell, ObeysSlowly}
@@ -427,35 +427,35 @@ module _ (S : Program) (A : Admitted S) (low : EveryRoot Numberable 0 (roots S))
     cell_agree : (s : Shape) → shape c.kind ≡ s → late s ≡ false → Looks (cell_table s).row (kinds net) (length net) k c
         → equation 1 s first_start (first' k) E' U k c t ≡ equation 1 s first_start (first' k) (element net words W) W k c t
     unfolding equation cell_table late
-    cell_agree kConstant e z v = refl
-    cell_agree kComplement e z v = not-both refl z
-    cell_agree kOperator e z v = not-both refl z
-    cell_agree kStart e z v = refl
-    cell_agree kGround e z v = refl
-    cell_agree kDelay e z v =
+    cell_agree k_constant e z v = refl
+    cell_agree k_complement e z v = not-both refl z
+    cell_agree k_operator e z v = not-both refl z
+    cell_agree k_start e z v = refl
+    cell_agree k_ground e z v = refl
+    cell_agree k_delay e z v =
         ap bit (delayed-here net words U W c.delay c.a t v.0.0 (λ u lu. a.0 u lu c.a v.1.0 (of-control c.a v.1.1)))
-    cell_agree kOr e z v =
+    cell_agree k_or e z v =
         ap₂ (λ (x y : ℕ). bit (eqb x 1 || eqb y 1)) (wire c.a v.1.0 v.1.1 t (le_refl t)) (wire c.b v.2.0 v.2.1 t (le_refl t))
-    cell_agree kWhenTrue e z v =
+    cell_agree k_when_true e z v =
         when_true (level U c.a t) (level W c.a t) (U c.b t) (W c.b t) (pulse c.a v.1.0 v.1.1)
-        (trusting (ap uses (kind-of kWhenTrue 36 e refl refl)))
-    cell_agree kWhenFalse e z v =
+        (trusting (ap uses (kind-of k_when_true 36 e refl refl)))
+    cell_agree k_when_false e z v =
         when_false (level U c.a t) (level W c.a t) (U c.b t) (W c.b t) (pulse c.a v.1.0 v.1.1)
-        (trusting (ap uses (kind-of kWhenFalse 37 e refl refl)))
-    cell_agree kMerge e z v =
+        (trusting (ap uses (kind-of k_when_false 37 e refl refl)))
+    cell_agree k_merge e z v =
         ap bit (merged-cong net words U W (merge_step true) c.a c.b t (wire c.a v.1.0 v.1.1) (wire c.b v.2.0 v.2.1))
-    cell_agree kReturn e z v =
+    cell_agree k_return e z v =
         ap bit (merged-cong net words U W (return_step true) c.a c.b t (wire c.a v.1.0 v.1.1) (wire c.b v.2.0 v.2.1))
-    cell_agree kMemory e z v =
-        memory-agree (first' k) t k c l q v.1.0 (of-control c.a v.1.1) v.2.0 ((fine 0 k l).word (kind-of kMemory 40 e refl refl)) a
-    cell_agree kGated e z v =
+    cell_agree k_memory e z v =
+        memory-agree (first' k) t k c l q v.1.0 (of-control c.a v.1.1) v.2.0 ((fine 0 k l).word (kind-of k_memory 40 e refl refl)) a
+    cell_agree k_gated e z v =
         gated (level U c.a t) (level W c.a t) (U c.b t) (W c.b t) (pulse c.a v.1.0 v.1.1)
-        (trusting (ap uses (kind-of kGated 41 e refl refl)))
-    cell_agree kArray e z v = refl
-    cell_agree kAddress e z v = refl
-    cell_agree kRead e z v = not-both refl z
-    cell_agree kLatch e z v = absurd ((fine 0 k l).latch (kind-of kLatch 45 e refl refl))
-    cell_agree kUnknown e z v = refl
+        (trusting (ap uses (kind-of k_gated 41 e refl refl)))
+    cell_agree k_array e z v = refl
+    cell_agree k_address e z v = refl
+    cell_agree k_read e z v = not-both refl z
+    cell_agree k_latch e z v = absurd ((fine 0 k l).latch (kind-of k_latch 45 e refl refl))
+    cell_agree k_unknown e z v = refl
 
     -- an or behind the walk
     or-agree : Joins Q k c → Looks (cell_table (shape c.kind)).row (kinds net) (length net) k c

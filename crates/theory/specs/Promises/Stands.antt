@@ -8,7 +8,7 @@ use Rattle.std.proofs.Math.Logic.{inr, ⊎_elim}
 use Rattle.std.proofs.Math.Bool.{true, false}
 use mathlib.Core.List.{List, [], ◌∷◌}
 use Rattle.std.proofs.Math.Dec.{eqb}
-use Rattle.model.specs.Rules.{Store, Run, atEnd, at_exit, done, ended, still}
+use Rattle.model.specs.Rules.{Store, Run, at_end, at_exit, done, ended, still}
 use Rattle.model.specs.Circuit.{Sig}
 use Rattle.model.specs.CircuitPromises.{stops_at, NoStart, ended_if}
 use Rattle.model.specs.RunPromises.{Request, continuing, start, Call, seen, Stand, stand, Runs, run_at, due_at, Next, refuses, after_continuing, pulsed, after_start, after_request, next, stands, starts_of}
@@ -86,7 +86,7 @@ stays rules st = inl (record { begun = refl; from = refl; now = omega arith })
 module _ (w : ℕ) (rules : Runs) (size : ℕ) where
   pulsed-moves : (st : Stand) (r : Run) → run_at rules st st.now ≡ r → Moves rules st (pulsed w rules st r).after
   unfolding pulsed
-  pulsed-moves st (done atEnd t σ) e = go (ltb 1 w && due_at w rules st st.now)
+  pulsed-moves st (done at_end t σ) e = go (ltb 1 w && due_at w rules st st.now)
     where
       go : (b : Bool) → Moves rules st (elim b as (λ z. Next) [ true ↦ refuses 23 st | false ↦ anew w rules st σ ]).after
       go true = stays rules st

@@ -35,56 +35,56 @@ pub positive-with : (F : Format) (nss : List (List ℕ)) → positive nss ≡ tr
 positive-with Full nss e = e
 positive-with Compact nss e = e
 
-program_runs : (G : Given) (program words : List ℕ) (n : ℕ) (forFile lent : List ℕ) →
-    let r = run_program_call (load G) program words n forFile lent in
+program_runs : (G : Given) (program words : List ℕ) (n : ℕ) (for_file lent : List ℕ) →
+    let r = run_program_call (load G) program words n for_file lent in
     let c = verdict r.answer.outcome in
-    Refuses (given_numbers ∷ program_numbers ∷ just 13 ∷ just 14 ∷ just 14 ∷ just 14 ∷ []) (run_program_checks (load G) program words n forFile lent) c
-    × Leaves c forFile r.netlist × Leaves c lent r.state
+    Refuses (given_numbers ∷ program_numbers ∷ just 13 ∷ just 14 ∷ just 14 ∷ just 14 ∷ []) (run_program_checks (load G) program words n for_file lent) c
+    × Leaves c for_file r.netlist × Leaves c lent r.state
 unfolding run_program_call
-program_runs G program words n forFile lent =
+program_runs G program words n for_file lent =
     let file = compiled_file (load G) program in
-    run-both-refuses _ (run_program_checks (load G) program words n forFile lent) refl
-    (given-gives G, run-order (load G) program words n forFile lent) file (full_state file words n lent)
-    (full_count file words n lent) forFile lent
+    run-both-refuses _ (run_program_checks (load G) program words n for_file lent) refl
+    (given-gives G, run-order (load G) program words n for_file lent) file (full_state file words n lent)
+    (full_count file words n lent) for_file lent
 
 answered : (net : List Cell) (f : ℕ) (W : Values) (t : ℕ) → verdict (slow_answer net f W t).outcome ≡ Accepted
 unfolding slow_answer
 answered net f W t = no-refusal (level W f t)
 
-pub slow-verdict : (c : Checked) (options : Options) (program words : List ℕ) (n : ℕ) (forValues forWork : List ℕ)
-    → verdict (slow_running c options program words n forValues forWork).answer.outcome ≡ c
+pub slow-verdict : (c : Checked) (options : Options) (program words : List ℕ) (n : ℕ) (for_values for_work : List ℕ)
+    → verdict (slow_running c options program words n for_values for_work).answer.outcome ≡ c
 unfolding slow_running
-slow-verdict Accepted options program words n forValues forWork =
+slow-verdict Accepted options program words n for_values for_work =
     let S = slow_program options program in
     let W = slowly (time_in options.times) S (word_at words) in
     answered (netlist S) (finish S) W (end_at (level W (finish S)) 0 n)
-slow-verdict (Refused r) options program words n forValues forWork = unfold verdict in refl
+slow-verdict (Refused r) options program words n for_values for_work = unfold verdict in refl
 
-slow-leaves : (c : Checked) (options : Options) (program words : List ℕ) (n : ℕ) (forValues forWork : List ℕ) →
-    let r = slow_running c options program words n forValues forWork in
-    Leaves c forValues r.values × Leaves c forWork r.work
+slow-leaves : (c : Checked) (options : Options) (program words : List ℕ) (n : ℕ) (for_values for_work : List ℕ) →
+    let r = slow_running c options program words n for_values for_work in
+    Leaves c for_values r.values × Leaves c for_work r.work
 unfolding slow_running
-slow-leaves Accepted options program words n forValues forWork = (λ l. absurd (omega arith), λ l. absurd (omega arith))
-slow-leaves (Refused r) options program words n forValues forWork = (λ l. refl, λ l. refl)
+slow-leaves Accepted options program words n for_values for_work = (λ l. absurd (omega arith), λ l. absurd (omega arith))
+slow-leaves (Refused r) options program words n for_values for_work = (λ l. refl, λ l. refl)
 
-slow-runs : (G : Given) (program words : List ℕ) (n : ℕ) (forValues forWork : List ℕ) →
-    let r = slow_run_call (load G) program words n forValues forWork in
+slow-runs : (G : Given) (program words : List ℕ) (n : ℕ) (for_values for_work : List ℕ) →
+    let r = slow_run_call (load G) program words n for_values for_work in
     let c = verdict r.answer.outcome in
-    Refuses (table_numbers ∷ program_numbers ∷ just 13 ∷ just 14 ∷ just 14 ∷ just 14 ∷ []) (slow_run_checks (load G) program words n forValues forWork) c
-    × Leaves c forValues r.values × Leaves c forWork r.work
+    Refuses (table_numbers ∷ program_numbers ∷ just 13 ∷ just 14 ∷ just 14 ∷ just 14 ∷ []) (slow_run_checks (load G) program words n for_values for_work) c
+    × Leaves c for_values r.values × Leaves c for_work r.work
 unfolding slow_run_call
-slow-runs G program words n forValues forWork =
-    let checks = slow_run_checks (load G) program words n forValues forWork in
+slow-runs G program words n for_values for_work =
+    let checks = slow_run_checks (load G) program words n for_values for_work in
     let cells = length (netlist (slow_program (load G) program)) in
-    let leaves = slow-leaves (first checks) (load G) program words n forValues forWork in
-    rw (slow-verdict (first checks) (load G) program words n forValues forWork) (
+    let leaves = slow-leaves (first checks) (load G) program words n for_values for_work in
+    rw (slow-verdict (first checks) (load G) program words n for_values for_work) (
       refuses _ checks refl (
         table-gives G,
         (
           check-gives (with_pulse 1 (load G)) program,
           (
             budget-gives n,
-            (short-gives (length words) 544, (short-gives (length forValues) (2 * cells), (short-gives (length forWork) (slow_size cells), tt))),
+            (short-gives (length words) 544, (short-gives (length for_values) (2 * cells), (short-gives (length for_work) (slow_size cells), tt))),
           ),
         ),
       ),

@@ -20,7 +20,7 @@ use Rattle.model.specs.Refusals.{refuse, number_of, refuse_if, first, first_faul
 use Rattle.model.specs.Program.{time_in, node_at, nodes_at, node_count, row_of, stmt_at, least, program_of, roots, Code, Stmt, ok, tick, assign, assign_elem, seq, par, ite, while, repeat, loop, exit, call, preorder_e, preorder}
 use Rattle.model.specs.Procedures.{inline, inlined, reached}
 use Rattle.model.specs.ProgramChecks.{unused_set, absent, node_fault, children, reading, root_sorts, searched, in_roots, delay_fault, shared_fault, shares, conflict_fault, conflicts, program_length_wrong, too_many_procedures, program_checks, check_of}
-use Rattle.model.specs.Rules.{Costs, Run, done, atEnd, at_exit, still, run}
+use Rattle.model.specs.Rules.{Costs, Run, done, at_end, at_exit, still, run}
 use Rattle.model.specs.Circuit.{high, cell_at, control, memories, past_memories}
 use Rattle.model.specs.NetlistFile.{net_of, pulse_of, pulse_wrong, word_sum, block_at, header_right, placed, array_placed, keeps, file_length_wrong, sum_fault, count_wrong, header_fault, cell_fault, net_checks, net_check, file_checks, file_check, blocks_for, cells_of, count_of, finish_of}
 use Rattle.model.specs.TimeTables.{given_checks, given_check, byte_wrong, table_fault, table_sum_wrong, table_checks, TimeTable, built_in, given, verdict_of, Given, load}
@@ -322,18 +322,18 @@ unfolding reference_answer verdict
 reference-runs κ n P words = go (run κ n P (word_at words))
   where
     go : (r : Run) → verdict (reference_answer n r).outcome ≡ Accepted
-    go (done atEnd t σ) = refl
+    go (done at_end t σ) = refl
     go (done at_exit t σ) = refl
     go still = refl
 
 pub compile-order : (options : Options) (program lent : List ℕ) → InOrder (program_numbers ∷ just 14 ∷ []) (netlist_checks options program lent)
 compile-order options program lent = (check-gives options program, (short-gives (length lent) (length (compiled_file options program)), tt))
 
-pub run-order : (options : Options) (program words : List ℕ) (n : ℕ) (forFile lent : List ℕ)
-    → InOrder (program_numbers ∷ just 13 ∷ just 14 ∷ just 14 ∷ just 14 ∷ []) (full_run_checks options program words n forFile lent)
-run-order options program words n forFile lent =
+pub run-order : (options : Options) (program words : List ℕ) (n : ℕ) (for_file lent : List ℕ)
+    → InOrder (program_numbers ∷ just 13 ∷ just 14 ∷ just 14 ∷ just 14 ∷ []) (full_run_checks options program words n for_file lent)
+run-order options program words n for_file lent =
     let file = compiled_file options program in
-    (check-gives options program, (budget-gives n, (short-gives (length words) 544, (short-gives (length forFile) (length file), (short-gives (length lent) (state_size Full (net_of file)), tt)))))
+    (check-gives options program, (budget-gives n, (short-gives (length words) 544, (short-gives (length for_file) (length file), (short-gives (length lent) (state_size Full (net_of file)), tt)))))
 
 -- continuing by n, and what more is checked after it
 pub going-order : (F : Format) (file : List ℕ) (n : ℕ) (lent : List ℕ) (nss : List (List ℕ)) (cs : List Checked) → InOrder nss cs
@@ -350,9 +350,9 @@ going-order F file n lent nss cs o = (
 )
 
 -- a full run of a program, after whatever checks
-pub run-both-refuses : (nss : List (List ℕ)) (cs : List Checked) → positive nss ≡ true → InOrder nss cs → (file s : List ℕ) (n : ℕ) (forFile lent : List ℕ) →
+pub run-both-refuses : (nss : List (List ℕ)) (cs : List Checked) → positive nss ≡ true → InOrder nss cs → (file s : List ℕ) (n : ℕ) (for_file lent : List ℕ) →
     let c = verdict (running Full (first cs) file s n lent).answer.outcome in
-    Refuses nss cs c × Leaves c forFile (writing (first cs) file (length file) 0 forFile).lent × Leaves c lent (running Full (first cs) file s n lent).lent
-run-both-refuses nss cs w o file s n forFile lent =
+    Refuses nss cs c × Leaves c for_file (writing (first cs) file (length file) 0 for_file).lent × Leaves c lent (running Full (first cs) file s n lent).lent
+run-both-refuses nss cs w o file s n for_file lent =
     rw (running-verdict Full (first cs) file s n lent)
-    (refuses nss cs w o, writing-leaves (first cs) file (length file) 0 forFile, running-leaves Full (first cs) file s n lent)
+    (refuses nss cs w o, writing-leaves (first cs) file (length file) 0 for_file, running-leaves Full (first cs) file s n lent)

@@ -7,7 +7,7 @@ use Rattle.std.specs.Prelude.{◌≡◌, refl, Bool, true, false, ltb}
 use Rattle.std.proofs.Common.{sym, ◌∙◌, ap, true≢false, inl, inr, arith, ltb-true, lt-ltb}
 use Rattle.model.specs.Word.{is_zero, element_word}
 use Rattle.model.specs.Program.{Expr, Stmt, ok, tick, assign, assign_elem, seq, par, ite, while, repeat, loop, exit, call}
-use Rattle.model.specs.Rules.{Costs, extended, Postponed, postponed, Store, eval, put, kept, Course, WhileEnds, WhileLeaves, RepeatEnds, RepeatLeaves, LoopEnds, Ends, Leaves, Way, atEnd, Run, done, ended, left, wait, chain, whiles, repeats, loops, run, shows_at, due}
+use Rattle.model.specs.Rules.{Costs, extended, Postponed, postponed, Store, eval, put, kept, Course, WhileEnds, WhileLeaves, RepeatEnds, RepeatLeaves, LoopEnds, Ends, Leaves, Way, at_end, Run, done, ended, left, wait, chain, whiles, repeats, loops, run, shows_at, due}
 use Rattle.laws.specs.Program.Fit.{Timed}
 use Rattle.laws.specs.Refusals.Laws.{by_bool}
 use Rattle.laws.specs.Rules.Laws.{Body, extended-positive, by_runs, steady, done-way, done-time, done-words, done-still, not-way, wait-done, wait-of, chain-done, chain-ended, chain-of, chain-out, both-done, both_of, caught-done, caught-of, whiles-stop, whiles-more, again, repeats-is, again-more, again-stop, round, loops_is, round_is, ite-then, ite-else}
@@ -407,7 +407,7 @@ due-ends κ w P h σ t p =
     by_runs (run κ t P σ)
     (λ t₁ σ₁ e.
     let q : ltb t (t₁ + w) ≡ true = rw e at p in
-    (t₁, σ₁, run_ends κ P t σ t₁ σ₁ e, (steady κ P h σ t atEnd t₁ σ₁ e).0, ltb-true t (t₁ + w) q))
+    (t₁, σ₁, run_ends κ P t σ t₁ σ₁ e, (steady κ P h σ t at_end t₁ σ₁ e).0, ltb-true t (t₁ + w) q))
     (λ t₁ σ₁ e. absurd (true≢false (sym (rw e at p))))
     (λ e. absurd (true≢false (sym (rw e at p))))
 

@@ -11,7 +11,7 @@ use Rattle.laws.specs.State.Passes.{length-counted, begin-is, begin-instant}
 use Rattle.model.specs.declared.Cell.{Cell}
 use Rattle.model.specs.declared.Format.{Format}
 use Rattle.model.specs.Word.{pick, bit, index, element_of, element_word, get16, bytes16}
-use Rattle.model.specs.Circuit.{Netlist, cell_at, Sig, Values, level, high, delayed, remaining_before, merged_before, step_of, memory, latch, Elements, element, array_at, equation, start_word, Obeys, Shape, kDelay, kMemory, kLatch, kRead}
+use Rattle.model.specs.Circuit.{Netlist, cell_at, Sig, Values, level, high, delayed, remaining_before, merged_before, step_of, memory, latch, Elements, element, array_at, equation, start_word, Obeys, Shape, k_delay, k_memory, k_latch, k_read}
 use Rattle.model.specs.State.{instant_of, word_bytes, cell_size, base, state_size, element_now, now_at, before_at, held_at, remaining_byte, remaining_at, next_value, value, first_value, line_at, counted, begin_state}
 use Rattle.model.specs.CircuitPromises.{earlier, kept}
 use Rattle.laws.specs.Circuit.Ordered.{kinds, Ordered}
@@ -53,7 +53,7 @@ word-written words x (suc n) rest (suc i) l =
     let r : x + 1 + i ≡ x + suc i = omega arith in
     rw (p, q) (word-written words (x + 1) n rest i (omega arith) ∙ ap words r)
 
-memory-equation : (w : ℕ) (sh : Shape) (starts : Sig) (first : ℕ) (E : Elements) (W : Values) (k : ℕ) (c : Cell) → sh ≡ kMemory
+memory-equation : (w : ℕ) (sh : Shape) (starts : Sig) (first : ℕ) (E : Elements) (W : Values) (k : ℕ) (c : Cell) → sh ≡ k_memory
     → equation w sh starts first E W k c 0 ≡ first
 unfolding equation memory
 memory-equation w sh starts first E W k c e = rw e
@@ -138,7 +138,7 @@ module _ (F : Format) where
     unfolding bit
     early d x l = ap bit (sym (delayed-early d x 0 (omega arith)))
 
-    begin-delay : (k : ℕ) → k < length net.cells → shape_at net k ≡ kDelay
+    begin-delay : (k : ℕ) → k < length net.cells → shape_at net k ≡ k_delay
         → line_at F net (two F net w Z k) k ((cell_at net.cells k).delay - 1) ≡ bit (delayed (cell_at net.cells k).delay (level W (cell_at net.cells k).a) 0)
     begin-delay k h e =
         let c = cell_at net.cells k in
@@ -160,16 +160,16 @@ module _ (F : Format) where
         ∙ rw (before-Z (cell_at net.cells (array_at net.cells a)).a (omega (arith, r.0, f.0)), r.2) (element-Z (64 * a + i) (omega arith) ∙ ap words z)
 
     -- no control was 1: a latch is 0
-    begin-latch : (k : ℕ) → k < length net.cells → shape_at net k ≡ kLatch
-        → next_value F kLatch (starts 0) net (two F net w Z k) k (cell_at net.cells k) ≡ latch W k (cell_at net.cells k) 0
+    begin-latch : (k : ℕ) → k < length net.cells → shape_at net k ≡ k_latch
+        → next_value F k_latch (starts 0) net (two F net w Z k) k (cell_at net.cells k) ≡ latch W k (cell_at net.cells k) 0
     unfolding next_value latch
     begin-latch k h e =
         let c = cell_at net.cells k in
         let o = latch-looks (kinds net.cells) (length net.cells) k c e (ordered.looks k h) in
         rw (seen-before F net w Z k c.a o.0 ∙ before-Z c.a o.0, seen-before F net w Z k k h ∙ before-Z k h)
 
-    begin-read : (k : ℕ) → k < length net.cells → ((a : ℕ) → a < k → now_at F (two F net w Z k) a ≡ W a 0) → shape_at net k ≡ kRead
-        → next_value F kRead (starts 0) net (two F net w Z k) k (cell_at net.cells k) ≡ element net.cells words W (cell_at net.cells k).a (index (W (cell_at net.cells k).b 0)) 0
+    begin-read : (k : ℕ) → k < length net.cells → ((a : ℕ) → a < k → now_at F (two F net w Z k) a ≡ W a 0) → shape_at net k ≡ k_read
+        → next_value F k_read (starts 0) net (two F net w Z k) k (cell_at net.cells k) ≡ element net.cells words W (cell_at net.cells k).a (index (W (cell_at net.cells k).b 0)) 0
     unfolding next_value
     begin-read k h lower e =
         let c = cell_at net.cells k in
@@ -217,7 +217,7 @@ module _ (F : Format) where
         element-after F net ordered a i la li w Z room-blank
         ∙ begin-element a i (length net.cells) la li (omega (arith, (ordered.arrays a la).0)) (omega arith)
 
-    begin-lines : (k : ℕ) → k < length net.cells → shape_at net k ≡ kDelay → (i : ℕ) → i < kept F (cell_at net.cells k).delay
+    begin-lines : (k : ℕ) → k < length net.cells → shape_at net k ≡ k_delay → (i : ℕ) → i < kept F (cell_at net.cells k).delay
         → line_at F net B k i ≡ bit (delayed i (level W (cell_at net.cells k).a) 0)
     begin-lines k h e zero g = newest-is F net ordered W 0 w Z room-Z begin-first k h e (bytes-Z k h)
     begin-lines k h e (suc i) g =

@@ -13,7 +13,7 @@ use Rattle.model.specs.declared.Format.TheVariants.{Full, Compact}
 use Rattle.model.specs.declared.Checked.TheVariants.{Accepted}
 use Rattle.model.specs.Word.{bit}
 use Rattle.model.specs.Refusals.{fault_if}
-use Rattle.model.specs.Circuit.{Netlist, cell_at, Sig, Values, high, level, delayed, kDelay}
+use Rattle.model.specs.Circuit.{Netlist, cell_at, Sig, Values, high, level, delayed, k_delay}
 use Rattle.model.specs.State.{now_at, left_at, line_bit, crowded, crowding}
 use Rattle.model.specs.CircuitPromises.{Free, Apart}
 use Rattle.laws.specs.Refusals.Laws.{by_bool, by_le, not-both, fault-unless, faultless}
@@ -79,7 +79,7 @@ apart-either Compact net W t h = h
 
 -- and up to the next one, if what enters there finds nothing
 pub apart_more : (net : Netlist) (W : Values) (t : ℕ) → Apart Compact net W t
-    → ((k : ℕ) → k < length net.cells → shape_at net k ≡ kDelay → Free (cell_at net.cells k).delay (level W (cell_at net.cells k).a) (suc t)) → Apart Compact net W (suc t)
+    → ((k : ℕ) → k < length net.cells → shape_at net k ≡ k_delay → Free (cell_at net.cells k).delay (level W (cell_at net.cells k).a) (suc t)) → Apart Compact net W (suc t)
 apart_more net W t h g k l e v m u =
     by_le v t (λ z. h k l e v z u)
     (λ z.
@@ -88,7 +88,7 @@ apart_more net W t h g k l e v m u =
 
 module _ (net : Netlist) (ordered : Ordered net.cells) (words : ℕ → ℕ) (W : Values) (t : ℕ) (s : List ℕ) where
   -- where pulses are apart, each finds its line with room for it
-  pub vacant-at : (F : Format) → Holding F net words W t s → Apart F net W (suc t) → (k : ℕ) → k < length net.cells → shape_at net k ≡ kDelay
+  pub vacant-at : (F : Format) → Holding F net words W t s → Apart F net W (suc t) → (k : ℕ) → k < length net.cells → shape_at net k ≡ k_delay
       → Vacant F s k (level W (cell_at net.cells k).a (suc t))
   unfolding Vacant
   vacant-at Full H apart k h e = tt
@@ -112,7 +112,7 @@ module _ (net : Netlist) (ordered : Ordered net.cells) (words : ℕ → ℕ) (W 
         by_bool (high (now_at Compact t' (cell_at net.cells k).a)) (λ z. rw (e, z, le-ltb 1 (left_at Compact s k) (v z)) refl) (λ z. rw (e, z) refl))
         (λ e. rw e refl))
 
-    if-crowded : (k : ℕ) → shape_at net k ≡ kDelay → crowded Compact net s t' k ≡ 0 → Vacant Compact s k (high (now_at Compact t' (cell_at net.cells k).a))
+    if-crowded : (k : ℕ) → shape_at net k ≡ k_delay → crowded Compact net s t' k ≡ 0 → Vacant Compact s k (high (now_at Compact t' (cell_at net.cells k).a))
     unfolding Vacant
     if-crowded k e z x =
         let q = fault-unless (eqb (cell_at net.cells k).kind 34 && (high (now_at Compact t' (cell_at net.cells k).a) && ltb 1 (left_at Compact s k))) 26 (omega arith)
@@ -121,7 +121,7 @@ module _ (net : Netlist) (ordered : Ordered net.cells) (words : ℕ → ℕ) (W 
 
     module _ (now : (a : ℕ) → a < length net.cells → now_at Compact t' a ≡ W a (suc t)) where
       -- "a pulse enters a line whose pulse hasn't come out"
-      pub crowds : Holding Compact net words W t s → (k : ℕ) → k < length net.cells → shape_at net k ≡ kDelay
+      pub crowds : Holding Compact net words W t s → (k : ℕ) → k < length net.cells → shape_at net k ≡ k_delay
           → (crowded Compact net s t' k ≡ 0) ↔ Free (cell_at net.cells k).delay (level W (cell_at net.cells k).a) (suc t)
       crowds H k h e =
           let o = delay-looks (kinds net.cells) (length net.cells) k (cell_at net.cells k) e (ordered.looks k h) in

@@ -14,7 +14,7 @@ use Rattle.model.specs.declared.Cell.{Cell}
 use Rattle.model.specs.declared.Format.{Format}
 use Rattle.model.specs.declared.Merge.{Merge}
 use Rattle.model.specs.Word.{pick, bit, is_zero, operate, index}
-use Rattle.model.specs.Circuit.{Netlist, cell_at, Sig, Values, high, level, delayed, remaining_step, remaining_before, pulses, merge_step, short_return, long_return, return_step, Step, merged_before, held_before, merged, merges, step_of, shape, memory, latch, Elements, element, array_at, equation, Shape, cell_table, kConstant, kComplement, kOperator, kStart, kGround, kDelay, kOr, kWhenTrue, kWhenFalse, kMerge, kReturn, kMemory, kGated, kArray, kAddress, kRead, kLatch, kUnknown}
+use Rattle.model.specs.Circuit.{Netlist, cell_at, Sig, Values, high, level, delayed, remaining_step, remaining_before, pulses, merge_step, short_return, long_return, return_step, Step, merged_before, held_before, merged, merges, step_of, shape, memory, latch, Elements, element, array_at, equation, Shape, cell_table, k_constant, k_complement, k_operator, k_start, k_ground, k_delay, k_or, k_when_true, k_when_false, k_merge, k_return, k_memory, k_gated, k_array, k_address, k_read, k_latch, k_unknown}
 use Rattle.model.specs.State.{instant_of, flight_of, cell_size, base, element_now, now_at, before_at, held_at, line_bit, remaining_byte, remaining_at, next_value, holding, settle, line_at, flight}
 use Rattle.model.specs.CircuitPromises.{earlier, kept, held_of, remaining_of}
 use Rattle.theory.specs.Numbering.Levels.{delayed-zero}
@@ -51,19 +51,19 @@ module _ (K : ℕ → ℕ) (n k : ℕ) (c : Cell) {sh : Shape} where
       (λ q. let (d, a, b) = looks-as K n k c (sym z ∙ merge-shape c.kind q) o in (a.0, b.0))
       (λ q. let (d, a, b) = looks-as K n k c (sym z ∙ return-shape c.kind q) o in (a.0, b.0))
 
-  pub delay-looks : sh ≡ kDelay → Looks (cell_table sh).row K n k c → (1 ≤ c.delay) × (c.delay ≤ 255) × (c.a < n)
+  pub delay-looks : sh ≡ k_delay → Looks (cell_table sh).row K n k c → (1 ≤ c.delay) × (c.delay ≤ 255) × (c.a < n)
   unfolding cell_table
   delay-looks e o = let (d, a, b) = looks-as K n k c e o in (d.0, d.1, a.0)
 
-  pub mem-looks : sh ≡ kMemory → Looks (cell_table sh).row K n k c → (c.a < k) × (c.b < n)
+  pub mem-looks : sh ≡ k_memory → Looks (cell_table sh).row K n k c → (c.a < k) × (c.b < n)
   unfolding cell_table
   mem-looks e o = let (d, a, b) = looks-as K n k c e o in (a.0, b.0)
 
-  pub latch-looks : sh ≡ kLatch → Looks (cell_table sh).row K n k c → (c.a < n) × (c.b < n)
+  pub latch-looks : sh ≡ k_latch → Looks (cell_table sh).row K n k c → (c.a < n) × (c.b < n)
   unfolding cell_table
   latch-looks e o = let (d, a, b) = looks-as K n k c e o in (a.0, b.0)
 
-  pub read_looks : sh ≡ kRead → Looks (cell_table sh).row K n k c → (c.a < k) × (c.b < k) × (K c.a ≡ 42)
+  pub read_looks : sh ≡ k_read → Looks (cell_table sh).row K n k c → (c.a < k) × (c.b < k) × (K c.a ≡ 42)
   unfolding cell_table
   read_looks e o = let (d, a, b) = looks-as K n k c e o in (a.0, b.0, eqb-true _ _ a.1)
 
@@ -84,36 +84,36 @@ module _ (F : Format) where
     held_by step z r = subst (λ (f : Step). Joins F f W c s k T) z.1 (r z.0)
 
     pub later-is : (sh : Shape) → shape c.kind ≡ sh → Looks (cell_table sh).row K n k c
-        → (sh ≡ kDelay → line_bit F s k c.delay (c.delay - 1) ≡ bit (delayed c.delay (level W c.a) T))
+        → (sh ≡ k_delay → line_bit F s k c.delay (c.delay - 1) ≡ bit (delayed c.delay (level W c.a) T))
         → (merges c.kind ≡ true → Joins F (step_of net.pulse c.kind) W c s k T)
-        → (sh ≡ kStart → remaining_at F s k ≡ remaining_before net.pulse starts T)
-        → (sh ≡ kMemory → next_value F kMemory (starts T) net s k c ≡ memory first W k c T)
-        → (sh ≡ kLatch → next_value F kLatch (starts T) net s k c ≡ latch W k c T)
-        → (sh ≡ kRead → next_value F kRead (starts T) net s k c ≡ E c.a (index (W c.b T)) T)
+        → (sh ≡ k_start → remaining_at F s k ≡ remaining_before net.pulse starts T)
+        → (sh ≡ k_memory → next_value F k_memory (starts T) net s k c ≡ memory first W k c T)
+        → (sh ≡ k_latch → next_value F k_latch (starts T) net s k c ≡ latch W k c T)
+        → (sh ≡ k_read → next_value F k_read (starts T) net s k c ≡ E c.a (index (W c.b T)) T)
         → next_value F sh (starts T) net s k c ≡ equation net.pulse sh starts first E W k c T
     unfolding next_value equation merged merged_before pulses cell_table
-    later-is kConstant z o q r p m g e = refl
-    later-is kComplement z o q r p m g e = ap (λ (x : ℕ). operate 3 x 0) (lower c.a o.1.0)
-    later-is kOperator z o q r p m g e = ap₂ (λ (x y : ℕ). operate c.kind x y) (lower c.a o.1.0) (lower c.b o.2.0)
-    later-is kStart z o q r p m g e = ap (λ (n : ℕ). bit (starts T || not (is_zero n))) (p refl)
-    later-is kGround z o q r p m g e = refl
-    later-is kDelay z o q r p m g e = q refl
-    later-is kOr z o q r p m g e = ap₂ (λ (x y : ℕ). bit (high x || high y)) (lower c.a o.1.0) (lower c.b o.2.0)
-    later-is kWhenTrue z o q r p m g e = ap₂ (λ (x y : ℕ). bit (high x && not (is_zero y))) (lower c.a o.1.0) (lower c.b o.2.0)
-    later-is kWhenFalse z o q r p m g e = ap₂ (λ (x y : ℕ). bit (high x && is_zero y)) (lower c.a o.1.0) (lower c.b o.2.0)
-    later-is kMerge z o q r p m g e =
+    later-is k_constant z o q r p m g e = refl
+    later-is k_complement z o q r p m g e = ap (λ (x : ℕ). operate 3 x 0) (lower c.a o.1.0)
+    later-is k_operator z o q r p m g e = ap₂ (λ (x y : ℕ). operate c.kind x y) (lower c.a o.1.0) (lower c.b o.2.0)
+    later-is k_start z o q r p m g e = ap (λ (n : ℕ). bit (starts T || not (is_zero n))) (p refl)
+    later-is k_ground z o q r p m g e = refl
+    later-is k_delay z o q r p m g e = q refl
+    later-is k_or z o q r p m g e = ap₂ (λ (x y : ℕ). bit (high x || high y)) (lower c.a o.1.0) (lower c.b o.2.0)
+    later-is k_when_true z o q r p m g e = ap₂ (λ (x y : ℕ). bit (high x && not (is_zero y))) (lower c.a o.1.0) (lower c.b o.2.0)
+    later-is k_when_false z o q r p m g e = ap₂ (λ (x y : ℕ). bit (high x && is_zero y)) (lower c.a o.1.0) (lower c.b o.2.0)
+    later-is k_merge z o q r p m g e =
         let j = held_by (merge_step (eqb net.pulse 1)) (of-merge net.pulse c.kind z) r in
         rw (j.held, j.was, lower c.a o.1.0, lower c.b o.2.0)
-    later-is kReturn z o q r p m g e =
+    later-is k_return z o q r p m g e =
         let j = held_by (return_step (eqb net.pulse 1)) (of-return net.pulse c.kind z) r in
         rw (j.held, j.was, lower c.a o.1.0, lower c.b o.2.0)
-    later-is kMemory z o q r p m g e = m refl
-    later-is kGated z o q r p m g e = ap₂ (λ (x y : ℕ). pick (high x) y 0) (lower c.a o.1.0) (lower c.b o.2.0)
-    later-is kArray z o q r p m g e = refl
-    later-is kAddress z o q r p m g e = refl
-    later-is kRead z o q r p m g e = e refl
-    later-is kLatch z o q r p m g e = g refl
-    later-is kUnknown z o q r p m g e = refl
+    later-is k_memory z o q r p m g e = m refl
+    later-is k_gated z o q r p m g e = ap₂ (λ (x y : ℕ). pick (high x) y 0) (lower c.a o.1.0) (lower c.b o.2.0)
+    later-is k_array z o q r p m g e = refl
+    later-is k_address z o q r p m g e = refl
+    later-is k_read z o q r p m g e = e refl
+    later-is k_latch z o q r p m g e = g refl
+    later-is k_unknown z o q r p m g e = refl
 
   -- Bytes without a use ------------------------------------------------------------------------------------------------------------------------------
 
@@ -127,27 +127,27 @@ module _ (F : Format) where
         → ((cell_at net.cells k).kind ≡ 32 → j ≡ remaining_byte F k → ⊥) → get_or s j 0 ≡ 0
     pub bits : (j : ℕ) → base F k + 4 ≤ j → j < base F k + 6 → get_or s j 0 ≤ most_held (cell_at net.cells k).kind k j
 
-  settle-rest : (w : ℕ) (sh : Shape) (t : List ℕ) (k : ℕ) (c : Cell) (j : ℕ) → base F k + 6 ≤ j → (sh ≡ kDelay → Spare F k j)
-      → (sh ≡ kStart → j ≡ remaining_byte F k → ⊥) → get_or (settle F w sh t k c) j 0 ≡ get_or t j 0
+  settle-rest : (w : ℕ) (sh : Shape) (t : List ℕ) (k : ℕ) (c : Cell) (j : ℕ) → base F k + 6 ≤ j → (sh ≡ k_delay → Spare F k j)
+      → (sh ≡ k_start → j ≡ remaining_byte F k → ⊥) → get_or (settle F w sh t k c) j 0 ≡ get_or t j 0
   unfolding settle
-  settle-rest w kConstant t k c j h g f = refl
-  settle-rest w kComplement t k c j h g f = refl
-  settle-rest w kOperator t k c j h g f = refl
-  settle-rest w kStart t k c j h g f = get_or-set_other t (remaining_byte F k) j _ 0 (f refl)
-  settle-rest w kGround t k c j h g f = refl
-  settle-rest w kDelay t k c j h g f = taken-spare t k c.delay _ F j (g refl)
-  settle-rest w kOr t k c j h g f = refl
-  settle-rest w kWhenTrue t k c j h g f = refl
-  settle-rest w kWhenFalse t k c j h g f = refl
-  settle-rest w kMerge t k c j h g f = holding-frame F t k _ j (inr h)
-  settle-rest w kReturn t k c j h g f = holding-frame F t k _ j (inr h)
-  settle-rest w kMemory t k c j h g f = refl
-  settle-rest w kGated t k c j h g f = refl
-  settle-rest w kArray t k c j h g f = refl
-  settle-rest w kAddress t k c j h g f = refl
-  settle-rest w kRead t k c j h g f = refl
-  settle-rest w kLatch t k c j h g f = refl
-  settle-rest w kUnknown t k c j h g f = refl
+  settle-rest w k_constant t k c j h g f = refl
+  settle-rest w k_complement t k c j h g f = refl
+  settle-rest w k_operator t k c j h g f = refl
+  settle-rest w k_start t k c j h g f = get_or-set_other t (remaining_byte F k) j _ 0 (f refl)
+  settle-rest w k_ground t k c j h g f = refl
+  settle-rest w k_delay t k c j h g f = taken-spare t k c.delay _ F j (g refl)
+  settle-rest w k_or t k c j h g f = refl
+  settle-rest w k_when_true t k c j h g f = refl
+  settle-rest w k_when_false t k c j h g f = refl
+  settle-rest w k_merge t k c j h g f = holding-frame F t k _ j (inr h)
+  settle-rest w k_return t k c j h g f = holding-frame F t k _ j (inr h)
+  settle-rest w k_memory t k c j h g f = refl
+  settle-rest w k_gated t k c j h g f = refl
+  settle-rest w k_array t k c j h g f = refl
+  settle-rest w k_address t k c j h g f = refl
+  settle-rest w k_read t k c j h g f = refl
+  settle-rest w k_latch t k c j h g f = refl
+  settle-rest w k_unknown t k c j h g f = refl
 
   held-bits : (t : List ℕ) (k : ℕ) (m : Merge) (j : ℕ) → base F k + 6 ≤ length t → base F k + 4 ≤ j → j < base F k + 6 → get_or (holding F t k m) j 0 ≤ 1
   unfolding holding
@@ -168,20 +168,20 @@ module _ (F : Format) where
   no-b false was m x y = refl
 
   settle-bits : (w : ℕ) (sh : Shape) (t : List ℕ) (k : ℕ) (c : Cell) (j B : ℕ) → base F k + 6 ≤ length t → base F k + 4 ≤ j → j < base F k + 6 → get_or t j 0 ≤ B
-      → (sh ≡ kMerge → B ≡ 1) → (sh ≡ kReturn → j ≡ base F k + 4 → B ≡ 1) → get_or (settle F w sh t k c) j 0 ≤ B
+      → (sh ≡ k_merge → B ≡ 1) → (sh ≡ k_return → j ≡ base F k + 4 → B ≡ 1) → get_or (settle F w sh t k c) j 0 ≤ B
   unfolding settle
-  settle-bits w kConstant t k c j B r h g l e f = l
-  settle-bits w kComplement t k c j B r h g l e f = l
-  settle-bits w kOperator t k c j B r h g l e f = l
-  settle-bits w kStart t k c j B r h g l e f =
+  settle-bits w k_constant t k c j B r h g l e f = l
+  settle-bits w k_complement t k c j B r h g l e f = l
+  settle-bits w k_operator t k c j B r h g l e f = l
+  settle-bits w k_start t k c j B r h g l e f =
       rw (get_or-set_other t (remaining_byte F k) j (remaining_step w (remaining_at F t k) (high (now_at F t k))) 0 (λ q. omega (arith, remaining-from F k))) l
-  settle-bits w kGround t k c j B r h g l e f = l
-  settle-bits w kDelay t k c j B r h g l e f = rw (taken-frame t k c.delay (high (now_at F t c.a)) F j (inl g)) l
-  settle-bits w kOr t k c j B r h g l e f = l
-  settle-bits w kWhenTrue t k c j B r h g l e f = l
-  settle-bits w kWhenFalse t k c j B r h g l e f = l
-  settle-bits w kMerge t k c j B r h g l e f = rw (e refl) (held-bits t k (merge_step (eqb w 1) (high (before_at F t k)) (held_at F t k) (high (now_at F t c.a)) (high (now_at F t c.b))).held j r h g)
-  settle-bits w kReturn t k c j B r h g l e f = go (ℕ_discrete j (base F k + 5))
+  settle-bits w k_ground t k c j B r h g l e f = l
+  settle-bits w k_delay t k c j B r h g l e f = rw (taken-frame t k c.delay (high (now_at F t c.a)) F j (inl g)) l
+  settle-bits w k_or t k c j B r h g l e f = l
+  settle-bits w k_when_true t k c j B r h g l e f = l
+  settle-bits w k_when_false t k c j B r h g l e f = l
+  settle-bits w k_merge t k c j B r h g l e f = rw (e refl) (held-bits t k (merge_step (eqb w 1) (high (before_at F t k)) (held_at F t k) (high (now_at F t c.a)) (high (now_at F t c.b))).held j r h g)
+  settle-bits w k_return t k c j B r h g l e f = go (ℕ_discrete j (base F k + 5))
     where
       m : Merge
       m = (return_step (eqb w 1) (high (before_at F t k)) (held_at F t k) (high (now_at F t c.a)) (high (now_at F t c.b))).held
@@ -191,13 +191,13 @@ module _ (F : Format) where
           rw (q, no-b (eqb w 1) (high (before_at F t k)) (held_at F t k) (high (now_at F t c.a)) (high (now_at F t c.b)), get_or-set_same (set t (base F k + 4) (bit m.a)) (base F k + 5) 0 0 (simp length-set (omega arith)))
           (omega arith)
       go (no n) = rw (f refl (omega arith)) (held-bits t k m j r h g)
-  settle-bits w kMemory t k c j B r h g l e f = l
-  settle-bits w kGated t k c j B r h g l e f = l
-  settle-bits w kArray t k c j B r h g l e f = l
-  settle-bits w kAddress t k c j B r h g l e f = l
-  settle-bits w kRead t k c j B r h g l e f = l
-  settle-bits w kLatch t k c j B r h g l e f = l
-  settle-bits w kUnknown t k c j B r h g l e f = l
+  settle-bits w k_memory t k c j B r h g l e f = l
+  settle-bits w k_gated t k c j B r h g l e f = l
+  settle-bits w k_array t k c j B r h g l e f = l
+  settle-bits w k_address t k c j B r h g l e f = l
+  settle-bits w k_read t k c j B r h g l e f = l
+  settle-bits w k_latch t k c j B r h g l e f = l
+  settle-bits w k_unknown t k c j B r h g l e f = l
 
   one_bit : (kind k j : ℕ) → kind ≡ 38 → most_held kind k j ≡ 1
   unfolding bit merges
@@ -231,11 +231,11 @@ module _ (F : Format) where
     pub past : (k : ℕ) → k < length net.cells → before_at F s k ≡ earlier W k t
     pub held : (k : ℕ) → k < length net.cells → merges (cell_at net.cells k).kind ≡ true
         → held_at F s k ≡ held_of net W t k
-    pub remaining : (k : ℕ) → k < length net.cells → shape_at net k ≡ kStart → remaining_at F s k ≡ remaining_of net W t k
-    pub lines : (k : ℕ) → k < length net.cells → shape_at net k ≡ kDelay
+    pub remaining : (k : ℕ) → k < length net.cells → shape_at net k ≡ k_start → remaining_at F s k ≡ remaining_of net W t k
+    pub lines : (k : ℕ) → k < length net.cells → shape_at net k ≡ k_delay
         → (i : ℕ) → i < kept F (cell_at net.cells k).delay → line_at F net s k i ≡ bit (delayed i (level W (cell_at net.cells k).a) t)
     pub elements : (a i : ℕ) → a < 4 → i < 64 → element_now F net s (64 * a + i) ≡ element net.cells words W (array_at net.cells a) i t
-    pub bytes : (k : ℕ) → k < length net.cells → shape_at net k ≡ kDelay → Line F s k (cell_at net.cells k).delay
+    pub bytes : (k : ℕ) → k < length net.cells → shape_at net k ≡ k_delay → Line F s k (cell_at net.cells k).delay
     pub clean : (k : ℕ) → k < length net.cells → Clean net s k
 
   pub record Holding (net : Netlist) (words : ℕ → ℕ) (W : Values) (t : ℕ) (s : List ℕ) : Type 0 where
@@ -268,13 +268,13 @@ module _ (F : Format) where
         held_after F net v u room k h e
         ∙ rw (r.held, r.was, now-is (cell_at net.cells k).a (omega arith), now-is (cell_at net.cells k).b (omega arith))
 
-    pub remaining-is : (k : ℕ) → k < length net.cells → shape_at net k ≡ kStart → remaining_at F u k ≡ remaining_before net.pulse (level W k) T
+    pub remaining-is : (k : ℕ) → k < length net.cells → shape_at net k ≡ k_start → remaining_at F u k ≡ remaining_before net.pulse (level W k) T
         → remaining_at F (after F net v u) k ≡ remaining_of net W T k
     unfolding remaining_before
     remaining-is k h e r =
         remaining-after F net v u room k h e ∙ ap₂ (λ (n v : ℕ). remaining_step net.pulse n (high v)) r (now-is k h)
 
-    pub newest-is : (k : ℕ) → k < length net.cells → (e : shape_at net k ≡ kDelay) → Line F u k (cell_at net.cells k).delay
+    pub newest-is : (k : ℕ) → k < length net.cells → (e : shape_at net k ≡ k_delay) → Line F u k (cell_at net.cells k).delay
         → line_at F net (after F net v u) k 0 ≡ bit (delayed 0 (level W (cell_at net.cells k).a) T)
     newest-is k h e b =
         let o = delay-looks (kinds net.cells) (length net.cells) k (cell_at net.cells k) e (ordered.looks k h) in

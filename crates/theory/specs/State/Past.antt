@@ -11,7 +11,7 @@ use Rattle.model.specs.declared.Format.{Format}
 use Rattle.model.specs.declared.Format.TheVariants.{Full, Compact}
 use Rattle.model.specs.declared.Merge.{Merge}
 use Rattle.model.specs.Word.{pick, bit, element_of, put16, put32}
-use Rattle.model.specs.Circuit.{Netlist, cell_at, Sig, high, Shape, shape, kConstant, kComplement, kOperator, kStart, kGround, kDelay, kOr, kWhenTrue, kWhenFalse, kMerge, kReturn, kMemory, kGated, kArray, kAddress, kRead, kLatch, kUnknown}
+use Rattle.model.specs.Circuit.{Netlist, cell_at, Sig, high, Shape, shape, k_constant, k_complement, k_operator, k_start, k_ground, k_delay, k_or, k_when_true, k_when_false, k_merge, k_return, k_memory, k_gated, k_array, k_address, k_read, k_latch, k_unknown}
 use Rattle.model.specs.State.{instant_of, up_to, shifted_in, word_bytes, cell_size, base, state_size, element_base, now_at, before_at, taken_in, remaining_byte, value, first_value, aged, stored, shown, holding, settle, settled, counted, blank, evaluate, begin_state, step_state}
 use Rattle.model.specs.CircuitPromises.{state_at}
 use Rattle.laws.specs.Refusals.Laws.{and-true}
@@ -52,24 +52,24 @@ module _ (F : Format) where
 
   past-settle : (w n : ℕ) (sh : Shape) (s : List ℕ) (k : ℕ) (c : Cell) → base F k + cell_size F ≤ n → Past n s (settle F w sh s k c)
   unfolding settle
-  past-settle w n kConstant s k c l = refl
-  past-settle w n kComplement s k c l = refl
-  past-settle w n kOperator s k c l = refl
-  past-settle w n kStart s k c l = past-set n s (remaining_byte F k) _ (omega (arith, remaining-within F k))
-  past-settle w n kGround s k c l = refl
-  past-settle w n kDelay s k c l = past-taken F n s k c.delay _ l
-  past-settle w n kOr s k c l = refl
-  past-settle w n kWhenTrue s k c l = refl
-  past-settle w n kWhenFalse s k c l = refl
-  past-settle w n kMerge s k c l = past-holding n s k _ l
-  past-settle w n kReturn s k c l = past-holding n s k _ l
-  past-settle w n kMemory s k c l = refl
-  past-settle w n kGated s k c l = refl
-  past-settle w n kArray s k c l = refl
-  past-settle w n kAddress s k c l = refl
-  past-settle w n kRead s k c l = refl
-  past-settle w n kLatch s k c l = refl
-  past-settle w n kUnknown s k c l = refl
+  past-settle w n k_constant s k c l = refl
+  past-settle w n k_complement s k c l = refl
+  past-settle w n k_operator s k c l = refl
+  past-settle w n k_start s k c l = past-set n s (remaining_byte F k) _ (omega (arith, remaining-within F k))
+  past-settle w n k_ground s k c l = refl
+  past-settle w n k_delay s k c l = past-taken F n s k c.delay _ l
+  past-settle w n k_or s k c l = refl
+  past-settle w n k_when_true s k c l = refl
+  past-settle w n k_when_false s k c l = refl
+  past-settle w n k_merge s k c l = past-holding n s k _ l
+  past-settle w n k_return s k c l = past-holding n s k _ l
+  past-settle w n k_memory s k c l = refl
+  past-settle w n k_gated s k c l = refl
+  past-settle w n k_array s k c l = refl
+  past-settle w n k_address s k c l = refl
+  past-settle w n k_read s k c l = refl
+  past-settle w n k_latch s k c l = refl
+  past-settle w n k_unknown s k c l = refl
 
   -- a pass over m cells
   past-pass : (n : ℕ) (f : List ℕ → ℕ → List ℕ) (m : ℕ) → ((s : List ℕ) (k : ℕ) → k < m → Past n s (f s k)) → (s : List ℕ) → Past n s (up_to f m s)

@@ -13,7 +13,7 @@ use Rattle.model.specs.declared.Cell.{Cell}
 use Rattle.model.specs.declared.Format.{Format}
 use Rattle.model.specs.declared.Format.TheVariants.{Full, Compact}
 use Rattle.model.specs.declared.Checked.TheVariants.{Accepted}
-use Rattle.model.specs.Circuit.{Netlist, cell_at, no_cell, Sig, Values, level, control, Obeys, shape, kDelay}
+use Rattle.model.specs.Circuit.{Netlist, cell_at, no_cell, Sig, Values, level, control, Obeys, shape, k_delay}
 use Rattle.model.specs.NetlistFile.{all_zero}
 use Rattle.model.specs.State.{flight_of, base, state_size, now_at, before_at, left_at, remaining_byte, remaining_at, most_left, flight, crowded, crowding, line_sound, cell_sound, cells_sound, sound}
 use Rattle.model.specs.CircuitPromises.{state_at, earlier, Holds, Free, Apart}
@@ -159,7 +159,7 @@ module _ (F : Format) where
 
 -- where a compact state meets 26
 pub states-crowds : (net : Netlist) → Ordered net.cells → (starts : Sig) (words : ℕ → ℕ) (W : Values) → Obeys net starts words W → starts 0 ≡ true
-    → (lent : List ℕ) → state_size Compact net ≤ length lent → (t : ℕ) → Apart Compact net W t → (k : ℕ) → k < length net.cells → shape (cell_at net.cells k).kind ≡ kDelay
+    → (lent : List ℕ) → state_size Compact net ≤ length lent → (t : ℕ) → Apart Compact net W t → (k : ℕ) → k < length net.cells → shape (cell_at net.cells k).kind ≡ k_delay
     → (crowded Compact net (state_at Compact net starts words lent t) (state_at Compact net starts words lent (suc t)) k ≡ 0)
     ↔ Free (cell_at net.cells k).delay (level W (cell_at net.cells k).a) (suc t)
 states-crowds net ordered starts words W obeys pulse lent room t apart =

@@ -6,7 +6,7 @@ use Rattle.std.proofs.Common.{◌∙◌, arith}
 use Rattle.std.proofs.Math.ListN.{length}
 use Rattle.model.specs.declared.Format.{Format}
 use Rattle.model.specs.Word.{bit, index, element_of}
-use Rattle.model.specs.Circuit.{Netlist, cell_at, Sig, Values, high, level, delayed, remaining_before, merges, step_of, memory, latch, element, array_at, start_word, Obeys, kStart, kDelay, kMemory, kLatch, kRead}
+use Rattle.model.specs.Circuit.{Netlist, cell_at, Sig, Values, high, level, delayed, remaining_before, merges, step_of, memory, latch, element, array_at, start_word, Obeys, k_start, k_delay, k_memory, k_latch, k_read}
 use Rattle.model.specs.State.{instant_of, cell_size, base, state_size, element_now, now_at, before_at, held_at, remaining_byte, remaining_at, next_value, value, line_at, counted, step_state}
 use Rattle.model.specs.CircuitPromises.{earlier, kept, Apart}
 use Rattle.laws.specs.Circuit.Ordered.{kinds, Ordered}
@@ -52,11 +52,11 @@ module _ (F : Format) where
       unfolding U
       before-U j h = before-one F s (length net.cells) j h (omega (arith, below F j (length net.cells) h)) ∙ H.body.present j h
 
-      bytes-U : (k : ℕ) → k < length net.cells → shape_at net k ≡ kDelay → Line F U k (cell_at net.cells k).delay
+      bytes-U : (k : ℕ) → k < length net.cells → shape_at net k ≡ k_delay → Line F U k (cell_at net.cells k).delay
       unfolding U
       bytes-U k h e = kept_same s U k (cell_at net.cells k).delay F (own s (length net.cells) k) (H.body.bytes k h e)
 
-      line-U : (k : ℕ) → k < length net.cells → shape_at net k ≡ kDelay
+      line-U : (k : ℕ) → k < length net.cells → shape_at net k ≡ k_delay
           → (i : ℕ) → i < kept F (cell_at net.cells k).delay → line_at F net U k i ≡ bit (delayed i (level W (cell_at net.cells k).a) t)
       unfolding U
       line-U k h e i g = line_same s U k (cell_at net.cells k).delay F (own s (length net.cells) k) i g ∙ H.body.lines k h e i g
@@ -71,7 +71,7 @@ module _ (F : Format) where
           }
 
       -- and what remains of the start
-      remaining-U : (k : ℕ) → k < length net.cells → shape_at net k ≡ kStart → remaining_at F U k ≡ remaining_before net.pulse (level W k) (suc t)
+      remaining-U : (k : ℕ) → k < length net.cells → shape_at net k ≡ k_start → remaining_at F U k ≡ remaining_before net.pulse (level W k) (suc t)
       unfolding U
       remaining-U k h e = own s (length net.cells) k (remaining_byte F k) (remaining-from F k) (remaining-within F k) ∙ H.body.remaining k h e
 
@@ -82,7 +82,7 @@ module _ (F : Format) where
       v : List ℕ → ℕ → ℕ
       v = value F net (starts (suc t))
 
-      step-delay : (k : ℕ) → k < length net.cells → shape_at net k ≡ kDelay
+      step-delay : (k : ℕ) → k < length net.cells → shape_at net k ≡ k_delay
           → line_at F net (two F net v U k) k ((cell_at net.cells k).delay - 1) ≡ bit (delayed (cell_at net.cells k).delay (level W (cell_at net.cells k).a) (suc t))
       step-delay k h e =
           let c = cell_at net.cells k in
@@ -93,8 +93,8 @@ module _ (F : Format) where
           ∙ line-U k h e (c.delay - 1) m
           ∙ ap bit (sym (delayed-more (c.delay - 1) (level W c.a) t) ∙ ap (λ (n : ℕ). delayed n (level W c.a) (suc t)) d)
 
-      step-memory : (k : ℕ) → k < length net.cells → ((a : ℕ) → a < k → now_at F (two F net v U k) a ≡ W a (suc t)) → shape_at net k ≡ kMemory
-          → next_value F kMemory (starts (suc t)) net (two F net v U k) k (cell_at net.cells k) ≡ memory (start_word net.cells words k) W k (cell_at net.cells k) (suc t)
+      step-memory : (k : ℕ) → k < length net.cells → ((a : ℕ) → a < k → now_at F (two F net v U k) a ≡ W a (suc t)) → shape_at net k ≡ k_memory
+          → next_value F k_memory (starts (suc t)) net (two F net v U k) k (cell_at net.cells k) ≡ memory (start_word net.cells words k) W k (cell_at net.cells k) (suc t)
       unfolding next_value memory
       step-memory k h lower e =
           let c = cell_at net.cells k in
@@ -104,8 +104,8 @@ module _ (F : Format) where
           let K : before_at F (two F net v U k) k ≡ W k t = seen-before F net v U k k h ∙ before-U k h in
           rw (A, B, K, lower c.a o.0)
 
-      step-latch : (k : ℕ) → k < length net.cells → shape_at net k ≡ kLatch
-          → next_value F kLatch (starts (suc t)) net (two F net v U k) k (cell_at net.cells k) ≡ latch W k (cell_at net.cells k) (suc t)
+      step-latch : (k : ℕ) → k < length net.cells → shape_at net k ≡ k_latch
+          → next_value F k_latch (starts (suc t)) net (two F net v U k) k (cell_at net.cells k) ≡ latch W k (cell_at net.cells k) (suc t)
       unfolding next_value latch
       step-latch k h e =
           let c = cell_at net.cells k in
@@ -133,8 +133,8 @@ module _ (F : Format) where
             H.body.elements a i la li,
           )
 
-      step-read : (k : ℕ) → k < length net.cells → ((a : ℕ) → a < k → now_at F (two F net v U k) a ≡ W a (suc t)) → shape_at net k ≡ kRead
-          → next_value F kRead (starts (suc t)) net (two F net v U k) k (cell_at net.cells k) ≡ element net.cells words W (cell_at net.cells k).a (index (W (cell_at net.cells k).b (suc t))) (suc t)
+      step-read : (k : ℕ) → k < length net.cells → ((a : ℕ) → a < k → now_at F (two F net v U k) a ≡ W a (suc t)) → shape_at net k ≡ k_read
+          → next_value F k_read (starts (suc t)) net (two F net v U k) k (cell_at net.cells k) ≡ element net.cells words W (cell_at net.cells k).a (index (W (cell_at net.cells k).b (suc t))) (suc t)
       unfolding next_value
       step-read k h lower e =
           let c = cell_at net.cells k in
@@ -199,14 +199,14 @@ module _ (F : Format) where
 
       -- and where pulses are apart, so are the lines
       module _ (apart : Apart F net W (suc t)) where
-        vacant : (k : ℕ) → k < length net.cells → shape_at net k ≡ kDelay → Vacant F U k (high (now_at F S (cell_at net.cells k).a))
+        vacant : (k : ℕ) → k < length net.cells → shape_at net k ≡ k_delay → Vacant F U k (high (now_at F S (cell_at net.cells k).a))
         unfolding U
         vacant k h e =
             let o = delay-looks (kinds net.cells) (length net.cells) k (cell_at net.cells k) e (ordered.looks k h) in
             vacant-same s U k (cell_at net.cells k).delay F (own s (length net.cells) k) _
             (rw (now-is F net ordered W (suc t) v U room-U step-first (cell_at net.cells k).a o.2) (vacant-at net ordered words W t s F H apart k h e))
 
-        step_lines : (k : ℕ) → k < length net.cells → shape_at net k ≡ kDelay
+        step_lines : (k : ℕ) → k < length net.cells → shape_at net k ≡ k_delay
             → (i : ℕ) → i < kept F (cell_at net.cells k).delay → line_at F net S k i ≡ bit (delayed i (level W (cell_at net.cells k).a) (suc t))
         step_lines k h e zero g = newest-is F net ordered W (suc t) v U room-U step-first k h e (bytes-U k h e)
         step_lines k h e (suc i) g =

@@ -4,7 +4,7 @@ use Rattle.std.specs.Prelude.{Bool, true, false, not, ◌||◌, ◌≡◌, refl,
 use Rattle.std.proofs.Common.{sym, ◌∙◌, ap₂, arith}
 use Rattle.std.proofs.Math.Path.{ap}
 use Rattle.model.specs.Word.{pick, is_zero}
-use Rattle.model.specs.Circuit.{Netlist, cell_at, Sig, Values, high, level, remaining_step, remaining_before, pulses, merged_before, merged, Step, merges, step_of, kStart, element, start_word, equation, Obeys, Shape}
+use Rattle.model.specs.Circuit.{Netlist, cell_at, Sig, Values, high, level, remaining_step, remaining_before, pulses, merged_before, merged, Step, merges, step_of, k_start, element, start_word, equation, Obeys, Shape}
 use Rattle.laws.specs.Circuit.Shapes.{merge-shape, return-shape, of-merge, of-return, by-merge}
 use Rattle.laws.specs.State.Bytes.{high_bit}
 use Rattle.laws.specs.State.Passes.{shape_at}
@@ -46,11 +46,11 @@ module _ (net : Netlist) (starts : Sig) (words : ℕ → ℕ) (W : Values) (obey
       obeys k h t
       ∙ ap (λ (sh : Shape). equation net.pulse sh starts (start_word net.cells words k) (element net.cells words W) W k (cell_at net.cells k) t) e
 
-  start-level : shape_at net k ≡ kStart → (t : ℕ) → level W k t ≡ pulses net.pulse starts t
+  start-level : shape_at net k ≡ k_start → (t : ℕ) → level W k t ≡ pulses net.pulse starts t
   unfolding equation
-  start-level e t = ap high (by_shape kStart e t) ∙ high_bit (pulses net.pulse starts t)
+  start-level e t = ap high (by_shape k_start e t) ∙ high_bit (pulses net.pulse starts t)
 
-  pub start-remaining : shape_at net k ≡ kStart → (t : ℕ) → remaining_before net.pulse (level W k) t ≡ remaining_before net.pulse starts t
+  pub start-remaining : shape_at net k ≡ k_start → (t : ℕ) → remaining_before net.pulse (level W k) t ≡ remaining_before net.pulse starts t
   start-remaining e t = remaining-level net.pulse starts (level W k) (start-level e) t
 
   pub merge-level : merges (cell_at net.cells k).kind ≡ true → (t : ℕ)

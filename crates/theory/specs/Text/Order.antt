@@ -56,17 +56,17 @@ compile-text-refuses G text lent =
     (text-order G text (program_numbers ∷ just 14 ∷ []) (netlist_checks (load G) program lent) (compile-order (load G) program lent)) file (length file)
     (finish (program_with (load G) program)) lent
 
-pub run-text-refuses : (G : Given) (text words : List ℕ) (n : ℕ) (forFile lent : List ℕ) →
-    let r = run_text_call (load G) text words n forFile lent in
+pub run-text-refuses : (G : Given) (text words : List ℕ) (n : ℕ) (for_file lent : List ℕ) →
+    let r = run_text_call (load G) text words n for_file lent in
     let c = verdict r.answer.outcome in
     Refuses (given_numbers ∷ just 17 ∷ just 17 ∷ just 18 ∷ program_numbers ∷ just 13 ∷ just 14 ∷ just 14 ∷ just 14 ∷ [])
-    (run_text_checks (load G) text words n forFile lent) c
-    × Leaves c forFile r.netlist × Leaves c lent r.state
+    (run_text_checks (load G) text words n for_file lent) c
+    × Leaves c for_file r.netlist × Leaves c lent r.state
 unfolding run_text_call
-run-text-refuses G text words n forFile lent =
+run-text-refuses G text words n for_file lent =
     let program = text_program text in
     let file = compiled_file (load G) program in
-    run-both-refuses _ (run_text_checks (load G) text words n forFile lent) refl
-    (text-order G text (program_numbers ∷ just 13 ∷ just 14 ∷ just 14 ∷ just 14 ∷ []) (full_run_checks (load G) program words n forFile lent)
-    (run-order (load G) program words n forFile lent))
-    file (full_state file words n lent) (full_count file words n lent) forFile lent
+    run-both-refuses _ (run_text_checks (load G) text words n for_file lent) refl
+    (text-order G text (program_numbers ∷ just 13 ∷ just 14 ∷ just 14 ∷ just 14 ∷ []) (full_run_checks (load G) program words n for_file lent)
+    (run-order (load G) program words n for_file lent))
+    file (full_state file words n lent) (full_count file words n lent) for_file lent

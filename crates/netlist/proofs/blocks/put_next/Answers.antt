@@ -11,7 +11,7 @@ returns-then-j-k c =
     let put = c.put_cell-total.ensures in
     λ net was l e p.
     put_last args.first net args.finish was args.k (omega (arith, l, low)) e (rw l refl) p
-    c.sum_before-before.ensures put.0 put.1 (sym l)
+    c.sum_before-before.ensures put.put put.sum (sym l)
     c.if-j-k.true c.close_block.ensures
 
 pub returns : goal.returns
@@ -22,4 +22,4 @@ returns c =
     let put = c.put_cell-total.ensures in
     λ net was l e p.
     put-inside args.first net args.finish was args.k (omega (arith, l, low)) e (rw l refl) p
-    c.sum_before-before.ensures put.0 put.1 (sym l) c.if-j-k.false
+    c.sum_before-before.ensures put.put put.sum (sym l) c.if-j-k.false

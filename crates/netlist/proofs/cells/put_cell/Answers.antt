@@ -22,5 +22,8 @@ pub returns : goal.returns
 returns c =
     let args = c.args in
     let put16 = c.put16 in
-    let put162 = c.put16-2 in record { put = cell-put args.d.now args.i args.c put16.ensures put162.ensures; sum = cell-added args.c args.sum c.wrapping_add_u16-with_first.ensures.value c.wrapping_add_u16-with_a.ensures.value
-          c.wrapping_add_u16.ensures.value }
+    let put162 = c.put16-2 in record {
+      put = cell-put args.d.now args.i args.c put16.ensures put162.ensures;
+      sum = cell-added args.c args.sum c.wrapping_add_u16-with_first.ensures.value c.wrapping_add_u16-with_a.ensures.value
+          c.wrapping_add_u16.ensures.value;
+    }

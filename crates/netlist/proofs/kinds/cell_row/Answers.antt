@@ -1,10 +1,11 @@
 -- A kind's row: each arm is a line of the model's table, and a kind of no arm is unknown. Assumes nothing.
 use Rattle.std.proofs.Common.{◌≡◌, ℕ, ◌<◌, ◌⊎◌, refl, inl, inr, ⊎_elim, arith, rules}
-use Rattle.model.specs.Circuit.{kUnknown, cell_table, shape, cell_row}
+use Rattle.model.specs.Circuit.{k_unknown, cell_table, shape, cell_row}
 use Rattle.laws.specs.Circuit.Shapes.{operator-shape, outside, apart}
 use Rattle.netlist.proofs.kinds.cell_row.Goals as goal
+use Rattle.netlist.proofs.kinds.cell_row.Goals.{in_default-via-then-kind-lt3, in_default-via-else-kind-lt3+else-kind-lt10}
 
-unlisted : (k : ℕ) → (k < 4) ⊎ (9 < k) → (k ≡ 1 → ⊥) → (k ≡ 3 → ⊥) → (k ≡ 32 → ⊥) → (k ≡ 33 → ⊥) → (k ≡ 34 → ⊥) → (k ≡ 35 → ⊥) → (k ≡ 36 → ⊥) → (k ≡ 37 → ⊥) → (k ≡ 38 → ⊥) → (k ≡ 39 → ⊥) → (k ≡ 40 → ⊥) → (k ≡ 41 → ⊥) → (k ≡ 42 → ⊥) → (k ≡ 43 → ⊥) → (k ≡ 44 → ⊥) → (k ≡ 45 → ⊥) → shape k ≡ kUnknown
+unlisted : (k : ℕ) → (k < 4) ⊎ (9 < k) → (k ≡ 1 → ⊥) → (k ≡ 3 → ⊥) → (k ≡ 32 → ⊥) → (k ≡ 33 → ⊥) → (k ≡ 34 → ⊥) → (k ≡ 35 → ⊥) → (k ≡ 36 → ⊥) → (k ≡ 37 → ⊥) → (k ≡ 38 → ⊥) → (k ≡ 39 → ⊥) → (k ≡ 40 → ⊥) → (k ≡ 41 → ⊥) → (k ≡ 42 → ⊥) → (k ≡ 43 → ⊥) → (k ≡ 44 → ⊥) → (k ≡ 45 → ⊥) → shape k ≡ k_unknown
 unfolding shape cell_table
 unlisted k o n1 n3 n32 n33 n34 n35 n36 n37 n38 n39 n40 n41 n42 n43 n44 n45 =
     rw (
@@ -96,13 +97,15 @@ pub returns-in-4-to-9 : goal.returns-in-4-to-9
 unfolding cell_table
 returns-in-4-to-9 c =
     let kind = c.args.kind in
-    let three = c.in_default-1.rest.0.0.0.0.0.0.0.0.0.0.0.0.0.0.1 in
-    rw (c.row-in-4-to-9.ensures, cell_row, operator-shape kind (omega (arith, c.if-kind-lt3.false, three)) (omega (arith, c.in-4-to-9.if-kind-lt10-own.true))) refl
+    rw (c.row-in-4-to-9.ensures, cell_row, operator-shape kind (omega arith) (omega arith)) refl
 
 pub returns-in_default : goal.returns-in_default
 unfolding cell_table
 returns-in_default c =
-    let rest = c.in_default-1.rest in
-    let none = unlisted _ (⊎_elim (λ w. inl (omega arith)) (λ w. inr (omega arith)) c.in_default.branch)
+    let rest = c.in_default.in_default-own.rest in
+    let none = unlisted _ (elim c.in_default.branch [
+      in_default-via-then-kind-lt3 w ↦ inl (omega arith) |
+      in_default-via-else-kind-lt3+else-kind-lt10 w ↦ inr (omega arith)
+    ])
     rest.0.0.0.0.0.0.0.0.0.0.0.0.0.0.0.1 rest.0.0.0.0.0.0.0.0.0.0.0.0.0.0.1 rest.0.0.0.0.0.0.0.0.0.0.0.0.0.1 rest.0.0.0.0.0.0.0.0.0.0.0.0.1 rest.0.0.0.0.0.0.0.0.0.0.0.1 rest.0.0.0.0.0.0.0.0.0.0.1 rest.0.0.0.0.0.0.0.0.0.1 rest.0.0.0.0.0.0.0.0.1 rest.0.0.0.0.0.0.0.1 rest.0.0.0.0.0.0.1 rest.0.0.0.0.0.1 rest.0.0.0.0.1 rest.0.0.0.1 rest.0.0.1 rest.0.1 rest.1 in
     rw (c.row-in_default.ensures, cell_row, none) refl

@@ -1,5 +1,5 @@
 -- `program_of` meets its contract, check by check. Assumes nothing.
-use Rattle.std.proofs.Common.{◌≡◌, [], sym, refl, ap, ◌∙◌, subst, rules}
+use Rattle.std.proofs.Common.{[], sym, ◌∙◌, subst}
 use Rattle.text.specs.Parsing.{Parses}
 use Rattle.text.proofs.Giving.{refused-told, refused-given, too_long, word-outside, grammar-broken, good-told, good-given}
 use Rattle.text.proofs.program_of.Goals as goal

@@ -1,5 +1,5 @@
 -- `sized` meets its contract. Assumes nothing.
-use Rattle.std.proofs.Common.{◌*◌, refl, ◌∙◌, arith, rules, le-ltb, lt-ltb}
+use Rattle.std.proofs.Common.{◌*◌, refl, arith, le-ltb, lt-ltb}
 use Rattle.model.specs.Calls.{writing}
 use Rattle.text.proofs.sized.Goals as goal
 

@@ -1,7 +1,5 @@
 -- `frames::pop` meets its contract. The invariant: what is left to take off comes out as at the start. Assumes nothing.
-use Rattle.std.proofs.Common.{◌≡◌, ◌≤◌, refl, ◌∙◌, arith}
-use Rattle.model.specs.Reader.{pop}
-use Rattle.text.specs.Shown.{frames_in}
+use Rattle.std.proofs.Common.{refl, ◌∙◌, arith}
 use Rattle.text.proofs.Stack.{pop-more, pop-stays, pop-empty, popped}
 use Rattle.text.proofs.frames.pop.Goals as goal
 

@@ -1,8 +1,7 @@
 -- `frames::pop` meets its contract. The invariant: what is left to take off comes out as at the start. Assumes nothing.
-use Rattle.std.proofs.Common.{◌≡◌, ◌≤◌, refl, ◌∙◌, arith}
+use Rattle.std.proofs.Common.{◌≡◌, ◌≤◌}
 use Rattle.model.specs.Reader.{pop}
 use Rattle.text.specs.Shown.{frames_in}
-use Rattle.text.proofs.Stack.{pop-more, pop-stays, pop-empty, popped}
 use Rattle.text.proofs.frames.pop.Given as goal
 
 abbrev pub invariant-loop-h : goal.invariant-loop-h

@@ -1,5 +1,5 @@
 -- `frames::push` meets its contract. Assumes nothing.
-use Rattle.std.proofs.Common.{arith, rules}
+use Rattle.std.proofs.Common.{arith}
 use Rattle.text.proofs.Stack.{frames-push}
 use Rattle.text.proofs.frames.push.Goals as goal
 

@@ -1,6 +1,5 @@
 -- `frames::top_code` meets its contract. Assumes nothing.
 use Rattle.text.proofs.Stack.{code-none, code-some}
-use Rattle.std.proofs.Common.{rules}
 use Rattle.text.proofs.frames.top_code.Goals as goal
 
 pub returns-then-height-eq0 : goal.returns-then-height-eq0

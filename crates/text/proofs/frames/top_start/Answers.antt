@@ -1,6 +1,5 @@
 -- `frames::top_start` meets its contract. Assumes nothing.
 use Rattle.text.proofs.Stack.{start_none, start-some}
-use Rattle.std.proofs.Common.{rules}
 use Rattle.text.proofs.frames.top_start.Goals as goal
 
 pub returns-then-height-eq0 : goal.returns-then-height-eq0

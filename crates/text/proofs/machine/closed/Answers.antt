@@ -1,5 +1,5 @@
 -- `machine::closed` meets its contract. Assumes nothing.
-use Rattle.std.proofs.Common.{arith, rules}
+use Rattle.std.proofs.Common.{arith}
 use Rattle.text.proofs.Moves.{closed-shown}
 use Rattle.text.proofs.machine.closed.Goals as goal
 

@@ -1,5 +1,5 @@
 -- `machine::opened` meets its contract. Assumes nothing.
-use Rattle.std.proofs.Common.{arith, rules}
+use Rattle.std.proofs.Common.{arith}
 use Rattle.text.proofs.Moves.{opened-shown}
 use Rattle.text.proofs.machine.opened.Goals as goal
 

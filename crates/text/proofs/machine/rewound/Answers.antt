@@ -1,5 +1,5 @@
 -- `machine::rewound` meets its contract. Assumes nothing.
-use Rattle.std.proofs.Common.{arith, rules}
+use Rattle.std.proofs.Common.{arith}
 use Rattle.text.proofs.Moves.{rewound-shown}
 use Rattle.text.proofs.machine.rewound.Goals as goal
 

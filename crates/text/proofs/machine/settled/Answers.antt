@@ -1,5 +1,5 @@
 -- `machine::settled` meets its contract. Assumes nothing.
-use Rattle.std.proofs.Common.{arith, rules}
+use Rattle.std.proofs.Common.{arith}
 use Rattle.text.proofs.Moves.{settled-shown}
 use Rattle.text.proofs.machine.settled.Goals as goal
 

@@ -1,5 +1,5 @@
 -- `nodes::insert_node` meets its contract. Assumes nothing.
-use Rattle.std.proofs.Common.{◌∙◌, arith, length-set, rules}
+use Rattle.std.proofs.Common.{◌∙◌, arith, length-set}
 use Rattle.text.proofs.Bytes.{insert-past, insert-here}
 use Rattle.text.proofs.nodes.insert_node.Goals as goal
 

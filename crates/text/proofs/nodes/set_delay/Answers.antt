@@ -1,5 +1,5 @@
 -- `nodes::set_delay` meets its contract. Assumes nothing.
-use Rattle.std.proofs.Common.{arith, rules}
+use Rattle.std.proofs.Common.{arith}
 use Rattle.text.proofs.Bytes.{delay-past, delay-many, delay-here}
 use Rattle.text.proofs.nodes.set_delay.Goals as goal
 

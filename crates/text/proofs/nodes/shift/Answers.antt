@@ -1,6 +1,5 @@
 -- `nodes::shift` meets its contract. The invariant: what stands from i on has moved. Assumes nothing.
-use Rattle.std.proofs.Common.{◌≡◌, ◌≤◌, length, sym, refl, arith, length-set}
-use Rattle.text.specs.Shown.{shifted}
+use Rattle.std.proofs.Common.{◌≡◌, sym, refl, arith, length-set}
 use Rattle.text.proofs.Bytes.{shift_none, shift-more}
 use Rattle.text.proofs.nodes.shift.Goals as goal
 

@@ -1,7 +1,6 @@
 -- `nodes::shift` meets its contract. The invariant: what stands from i on has moved. Assumes nothing.
-use Rattle.std.proofs.Common.{◌≡◌, ◌≤◌, length, sym, refl, arith, length-set}
+use Rattle.std.proofs.Common.{◌≡◌, ◌≤◌, length}
 use Rattle.text.specs.Shown.{shifted}
-use Rattle.text.proofs.Bytes.{shift_none, shift-more}
 use Rattle.text.proofs.nodes.shift.Given as goal
 
 abbrev pub invariant-loop-i : goal.invariant-loop-i

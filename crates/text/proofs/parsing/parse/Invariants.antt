@@ -1,10 +1,8 @@
 -- `parsing::parse` meets its contract. The invariant: from the word ahead the reading goes on as from the first.
 -- Assumes nothing.
-use Rattle.std.proofs.Common.{◌≡◌, ◌-◌, length, sym, refl, ap, ◌∙◌, arith, rules}
+use Rattle.std.proofs.Common.{◌-◌, length}
 use Rattle.text.specs.Shown.{lists}
-use Rattle.text.specs.Parsing.{Parses, Going}
-use Rattle.scanner.specs.ScanningLaws.{next}
-use Rattle.text.proofs.Going.{going-first, going-breaks, going_next, going-ends, going-open}
+use Rattle.text.specs.Parsing.{Going}
 use Rattle.text.proofs.parsing.parse.Given as goal
 
 abbrev pub invariant-loop-w : goal.invariant-loop-w

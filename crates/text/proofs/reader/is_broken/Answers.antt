@@ -1,5 +1,5 @@
 -- `reader::is_broken` meets its contract. Assumes nothing.
-use Rattle.std.proofs.Common.{refl, rules}
+use Rattle.std.proofs.Common.{refl}
 use Rattle.model.specs.Reader.{is_broken}
 use Rattle.text.proofs.reader.is_broken.Goals as goal
 

@@ -1,5 +1,5 @@
 -- `reader::is_chained` meets its contract. Assumes nothing.
-use Rattle.std.proofs.Common.{refl, rules}
+use Rattle.std.proofs.Common.{refl}
 use Rattle.text.proofs.Arms.{popped-shown}
 use Rattle.text.proofs.reader.is_chained.Goals as goal
 

@@ -1,6 +1,5 @@
 -- `reader::is_empty` meets its contract. Assumes nothing.
 use Rattle.text.proofs.Arms.{empty-shown}
-use Rattle.std.proofs.Common.{rules}
 use Rattle.text.proofs.reader.is_empty.Goals as goal
 
 pub returns : goal.returns

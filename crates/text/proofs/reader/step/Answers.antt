@@ -1,5 +1,5 @@
 -- `reader::step` meets its contract. Assumes nothing.
-use Rattle.std.proofs.Common.{◌≤◌, arith, rules}
+use Rattle.std.proofs.Common.{◌≤◌, arith}
 use Rattle.model.specs.Reader.{step_of}
 use Rattle.text.specs.Shown.{limit_of}
 use Rattle.text.proofs.Arms.{step_in}
@@ -11,7 +11,6 @@ on_ticks-requires c =
     let start = c in
     let args = start.args in
     let pre = start.requires in
-    let enum-told6 = c.in-Ticks in
     let few : args.t.value ≤ 255 = rw c.in-Ticks.is at pre.1 in
     (pre.0.nodes, few)
 
@@ -21,7 +20,6 @@ on_delay-requires c =
     let start = c in
     let args = start.args in
     let pre = start.requires in
-    let enum-told7 = c.in-Delay in
     let few : args.t.value ≤ 255 = rw c.in-Delay.is at pre.1 in
     (omega (arith, pre.0.codes, pre.0.height), omega (arith, pre.0.starts, pre.0.height), pre.0.nodes, few)
 
@@ -29,69 +27,52 @@ pub returns-in-Statement : goal.returns-in-Statement
 unfolding step_of
 returns-in-Statement c =
     let args = c.args in
-    let enum_told = c.in-Statement in
-    let on-statement = c.on_statement in
     record { grows = c.on_statement.ensures.grows; follows = (λ r w h. rw (step_in args.t r h c.in-Statement.is) (c.on_statement.ensures.follows r w h)) }
 
 pub returns-in-AfterStatement : goal.returns-in-AfterStatement
 unfolding step_of
 returns-in-AfterStatement c =
     let args = c.args in
-    let enum-told2 = c.in-AfterStatement in
-    let on-after-statement = c.on_after_statement in
     record { grows = c.on_after_statement.ensures.grows; follows = (λ r w h. rw (step_in args.t r h c.in-AfterStatement.is) (c.on_after_statement.ensures.follows r w h)) }
 
 pub returns-in-Operand : goal.returns-in-Operand
 unfolding step_of
 returns-in-Operand c =
     let args = c.args in
-    let enum-told3 = c.in-Operand in
-    let on-operand = c.on_operand in
     record { grows = c.on_operand.ensures.grows; follows = (λ r w h. rw (step_in args.t r h c.in-Operand.is) (c.on_operand.ensures.follows r w h)) }
 
 pub returns-in-AfterOperand : goal.returns-in-AfterOperand
 unfolding step_of
 returns-in-AfterOperand c =
     let args = c.args in
-    let enum-told4 = c.in-AfterOperand in
-    let on-after-operand = c.on_after_operand in
     record { grows = c.on_after_operand.ensures.grows; follows = (λ r w h. rw (step_in args.t r h c.in-AfterOperand.is) (c.on_after_operand.ensures.follows r w h)) }
 
 pub returns-in-Becomes : goal.returns-in-Becomes
 unfolding step_of
 returns-in-Becomes c =
     let args = c.args in
-    let enum-told5 = c.in-Becomes in
-    let on-becomes = c.on_becomes in
     record { grows = omega (arith, c.on_becomes.ensures.grows); follows = (λ r w h. rw (step_in args.t r h c.in-Becomes.is) (c.on_becomes.ensures.follows _ r h)) }
 
 pub returns-in-Ticks : goal.returns-in-Ticks
 unfolding step_of
 returns-in-Ticks c =
     let args = c.args in
-    let enum-told6 = c.in-Ticks in
-    let on-ticks = c.on_ticks in
     record { grows = omega (arith, c.on_ticks.ensures.grows); follows = (λ r w h. rw (step_in args.t r h c.in-Ticks.is) (c.on_ticks.ensures.follows args.codes.now args.starts.now r h)) }
 
 pub returns-in-Delay : goal.returns-in-Delay
 unfolding step_of
 returns-in-Delay c =
     let args = c.args in
-    let enum-told7 = c.in-Delay in
-    let on-delay = c.on_delay in
     record { grows = omega (arith, c.on_delay.ensures.grows); follows = (λ r w h. rw (step_in args.t r h c.in-Delay.is) (c.on_delay.ensures.follows r h)) }
 
 pub returns-in-Body : goal.returns-in-Body
 unfolding step_of
 returns-in-Body c =
     let args = c.args in
-    let enum-told8 = c.in-Body in
-    let on-body = c.on_body in
     record { grows = omega (arith, c.on_body.ensures.grows); follows = (λ r w h. rw (step_in args.t r h c.in-Body.is) (c.on_body.ensures.follows args.nodes.now r h)) }
 
 pub returns-in-Broken : goal.returns-in-Broken
 unfolding step_of
 returns-in-Broken c =
     let args = c.args in
-    let enum-told9 = c.in-Broken in
     record { grows = omega arith; follows = (λ r w h. rw (step_in args.t r h c.in-Broken.is) h) }

@@ -1,6 +1,5 @@
 -- `in_flight` meets its contract. Assumes nothing.
 use mathlib.Core.Path.{sym, ◌∙◌, ap}
-use borrow.Author.Rules.{rules}
 use Rattle.model.specs.State.{held_bits}
 use Rattle.state.proofs.Counting.{delay-flight, merge-flight, start-flight, none-flight}
 use Rattle.state.proofs.flight.in_flight.Goals as goal

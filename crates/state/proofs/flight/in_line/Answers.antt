@@ -2,7 +2,6 @@
 use Rattle.state.specs.Stands.{Stands}
 use Rattle.state.proofs.Counting.{one_left, compact-ones}
 use Rattle.state.proofs.Places.{left_here}
-use borrow.Author.Rules.{rules}
 use Rattle.state.proofs.flight.in_line.Goals as goal
 
 pub returns-in-Full : goal.returns-in-Full

@@ -1,8 +1,7 @@
 -- `ones` meets its contract: the sum so far is the ones of whole bytes. Assumes nothing.
 use native.Mathlib.Omega.{arith}
 use lib.Pow.{pow_pos}
-use Rattle.state.proofs.Counting.{Counts, counts-none, counts-byte, counts-more, mask, counts-rest, counts_all}
-use borrow.Author.Rules.{rules}
+use Rattle.state.proofs.Counting.{counts-none, counts-byte, counts-more, mask, counts-rest, counts_all}
 use Rattle.state.proofs.flight.ones.Goals as goal
 
 pub loop-left-init : goal.loop-left-init

@@ -1,8 +1,5 @@
 -- `ones` meets its contract: the sum so far is the ones of whole bytes. Assumes nothing.
-use native.Mathlib.Omega.{arith}
-use lib.Pow.{pow_pos}
-use Rattle.state.proofs.Counting.{Counts, counts-none, counts-byte, counts-more, mask, counts-rest, counts_all}
-use borrow.Author.Rules.{rules}
+use Rattle.state.proofs.Counting.{Counts}
 use Rattle.state.proofs.flight.ones.Given as goal
 
 abbrev pub invariant-loop-left : goal.invariant-loop-left

@@ -5,7 +5,6 @@ use Prim.Native.Nat.{◌+◌}
 use native.Mathlib.Omega.{arith}
 use lib.Dec.{ltb}
 use lib.ListN.{get_or}
-use borrow.Author.Rules.{rules}
 use Rattle.state.proofs.Places.{full-room, counter-room}
 use Rattle.state.proofs.lines.is_crowded.Goals as goal
 

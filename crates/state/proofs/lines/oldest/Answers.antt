@@ -1,7 +1,6 @@
 -- `oldest` meets its contract. Assumes nothing.
 use Prim.Native.Nat.{◌+◌, ◌-◌, ◌/◌}
 use native.Mathlib.Omega.{arith}
-use borrow.Author.Rules.{rules}
 use Rattle.state.proofs.lines.oldest.Goals as goal
 
 pub overflow_cast-byte : goal.overflow_cast-byte

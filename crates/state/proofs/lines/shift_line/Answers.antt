@@ -1,12 +1,8 @@
 -- `shift_line` meets its contract. What is left of the line, shifted with the carry so far, is the whole line shifted.
 -- Assumes nothing.
-use mathlib.Core.Path.{◌≡◌, refl, sym, ◌∙◌}
-use Prim.Native.Nat.{◌+◌, ◌<◌}
+use mathlib.Core.Path.{refl, sym, ◌∙◌}
 use native.Mathlib.Omega.{arith}
-use lib.ListN.{length, length-set}
-use borrow.Author.Rules.{rules}
-use Rattle.model.specs.State.{shifted_in}
-use Rattle.model.specs.Word.{bit}
+use lib.ListN.{length-set}
 use Rattle.laws.specs.State.Bytes.{bit-lt}
 use Rattle.state.proofs.Places.{shifted_none, shifted-more}
 use Rattle.state.proofs.lines.shift_line.Goals as goal

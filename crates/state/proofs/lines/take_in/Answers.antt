@@ -1,7 +1,6 @@
 -- `take_in` meets its contract. Assumes nothing.
 use mathlib.Core.Path.{◌≡◌, ◌∙◌}
 use native.Mathlib.Omega.{arith}
-use borrow.Author.Rules.{rules}
 use Rattle.model.specs.declared.Format.TheVariants.{Full}
 use Rattle.model.specs.State.{base}
 use Rattle.state.specs.Stands.{Stands}

@@ -1,10 +1,8 @@
 -- `all_zero` meets its contract: the bytes that are left are all zero if and only if all are. Assumes nothing.
-use mathlib.Core.Path.{◌≡◌, refl, sym, ◌∙◌}
+use mathlib.Core.Path.{◌≡◌}
 use Prim.Native.Nat.{◌+◌}
-use native.Mathlib.Omega.{arith}
 use lib.ListN.{take, drop}
 use Rattle.model.specs.NetlistFile.{all_zero}
-use Rattle.state.proofs.Soundness.{zero-here, set_here, zero-none}
 use Rattle.state.proofs.sound.all_zero.Given as goal
 
 abbrev pub invariant-loop-left : goal.invariant-loop-left

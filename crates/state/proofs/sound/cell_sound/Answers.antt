@@ -2,7 +2,6 @@
 use mathlib.Core.Path.{◌∙◌, ap}
 use Prim.Native.Nat.{◌+◌}
 use native.Mathlib.Omega.{arith}
-use borrow.Author.Rules.{rules}
 use Rattle.model.specs.Word.{bit}
 use Rattle.state.proofs.Soundness.{sound-parts}
 use Rattle.state.proofs.sound.cell_sound.Goals as goal

@@ -1,17 +1,9 @@
 -- `cells_sound` meets its contract: the cells that are left are sound if and only if all are. Assumes nothing.
-use mathlib.Core.List.{List}
-use mathlib.Core.Path.{◌≡◌, refl, sym, ◌∙◌, ap}
-use Prim.Native.Nat.{ℕ, ◌-◌, ◌<◌, ◌≤◌}
-use native.Mathlib.Omega.{arith}
+use mathlib.Core.Path.{◌≡◌}
+use Prim.Native.Nat.{◌-◌, ◌≤◌}
 use lib.ListN.{drop}
-use borrow.Author.Rules.{rules}
-use borrow.Author.Tests.{not-false, not-true}
-use Rattle.model.specs.NetlistFile.{count_of, pulse_of, cells_of}
-use Rattle.model.specs.State.{cell_sound, cells_sound}
-use Rattle.laws.specs.NetlistFile.Passed.{count-cells}
-use Rattle.netlist.proofs.Headers.{header-count, header-pulse}
-use Rattle.state.proofs.Files.{file-cell, file-sized, file-stands}
-use Rattle.state.proofs.Soundness.{sound-here, unsound-here, sound_none}
+use Rattle.model.specs.NetlistFile.{pulse_of, cells_of}
+use Rattle.model.specs.State.{cells_sound}
 use Rattle.state.proofs.sound.cells_sound.Given as goal
 
 abbrev pub invariant-loop-k : goal.invariant-loop-k

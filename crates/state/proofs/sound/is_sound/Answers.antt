@@ -1,5 +1,4 @@
 -- `is_sound` meets its contract. Assumes nothing.
-use borrow.Author.Rules.{rules}
 use native.Mathlib.Omega.{arith}
 use Rattle.model.specs.State.{sound}
 use Rattle.netlist.proofs.Headers.{header-count}

@@ -1,7 +1,6 @@
 -- `line_sound` meets its contract. Assumes nothing.
 use Rattle.state.specs.Stands.{Stands}
 use mathlib.Core.Path.{◌≡◌, ◌∙◌}
-use mathlib.Core.Logic.{⊎_elim}
 use lib.Dec.{eqb}
 use borrow.Author.Tests.{eq-eqb, ne_eqb}
 use Rattle.model.specs.Word.{pick}
@@ -10,8 +9,8 @@ use Rattle.model.specs.State.{base, most_left}
 use Rattle.state.proofs.Places.{left_here}
 use Rattle.state.proofs.Soundness.{full-line, compact-line}
 use native.Mathlib.Omega.{arith}
-use borrow.Author.Rules.{rules}
 use Rattle.state.proofs.sound.line_sound.Goals as goal
+use Rattle.state.proofs.sound.line_sound.Goals.{then-kind-eq34, else-kind-eq34}
 
 pub all_zero-line-requires : goal.all_zero-line-requires
 all_zero-line-requires c =
@@ -49,6 +48,9 @@ returns-after-kind-eq34 c =
     let base-call = c.base-at in
     let enum-told2 = c.in-Compact in
     let limit : c.if-kind-eq34.limit ≡ pick (eqb args.c.kind 34) args.c.delay (most_left Compact args.pulse args.c) =
-    ⊎_elim (λ w. rw (eq-eqb _ _ w.0.taken) w.1) (λ w. rw (ne_eqb _ _ w.0.left) (w.1 ∙ most-left.ensures)) c.if-kind-eq34.branch in
+    elim c.if-kind-eq34.branch [
+      | then-kind-eq34 w ↦ rw (eq-eqb _ _ w.if-kind-eq34.true) w.limit-is
+      | else-kind-eq34 w ↦ rw (ne_eqb _ _ w.if-kind-eq34.false) (w.limit-is ∙ most-left.ensures)
+    ] in
     let left = left_here args.format args.s.now args.k _ base-call.ensures c.in-Compact.is in
     rw c.in-Compact.is (compact-line args.pulse args.c args.s.now args.k _ _ _ (rw c.in-Compact.is at base-call.ensures) left limit)

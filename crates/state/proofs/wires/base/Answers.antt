@@ -2,7 +2,6 @@
 use Rattle.state.proofs.Standing.{place-low}
 use native.Mathlib.Omega.{arith}
 use mathlib.Core.Path.{refl}
-use borrow.Author.Rules.{rules}
 use Rattle.state.proofs.wires.base.Goals as goal
 
 pub overflow_mul-result : goal.overflow_mul-result

@@ -1,5 +1,4 @@
 -- `before_at` meets its contract: what it reads is the value an instant ago. Assumes nothing.
-use borrow.Author.Rules.{rules}
 use Rattle.state.proofs.wires.before_at.Goals as goal
 
 pub returns : goal.returns

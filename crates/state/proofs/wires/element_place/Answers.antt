@@ -1,7 +1,6 @@
 -- `element_place` meets its contract. Assumes nothing.
 use Rattle.state.proofs.Standing.{place-low}
 use native.Mathlib.Omega.{arith}
-use borrow.Author.Rules.{rules}
 use Rattle.state.proofs.wires.element_place.Goals as goal
 
 pub overflow_add-result-2 : goal.overflow_add-result-2

@@ -1,6 +1,5 @@
 -- `held_at` meets its contract. Assumes nothing.
 use mathlib.Core.Path.{refl}
-use borrow.Author.Rules.{rules}
 use Rattle.model.specs.State.{held_at}
 use Rattle.state.proofs.wires.held_at.Goals as goal
 

@@ -1,7 +1,6 @@
 -- `hold` meets its contract. Assumes nothing.
 use native.Mathlib.Omega.{arith}
 use lib.ListN.{length-set}
-use borrow.Author.Rules.{rules}
 use Rattle.model.specs.State.{holding}
 use Rattle.laws.specs.State.Bytes.{bit-lt}
 use Rattle.state.proofs.wires.hold.Goals as goal

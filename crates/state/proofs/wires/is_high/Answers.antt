@@ -1,6 +1,5 @@
 -- `is_high` meets its contract. Assumes nothing.
 use mathlib.Core.Path.{ap}
-use borrow.Author.Rules.{rules}
 use Rattle.model.specs.Circuit.{high}
 use Rattle.state.proofs.wires.is_high.Goals as goal
 

@@ -1,7 +1,6 @@
 -- `merged` meets its contract. Assumes nothing.
 use mathlib.Core.Path.{◌∙◌, ap, ap₂}
 use Prim.Native.Nat.{ℕ}
-use borrow.Author.Rules.{rules}
 use Rattle.model.specs.declared.Merge.{Merge}
 use Rattle.model.specs.declared.Merged.{Merged}
 use Rattle.model.specs.Word.{bit}

@@ -1,6 +1,5 @@
 -- `now_at` meets its contract. Assumes nothing.
 use mathlib.Core.Path.{◌∙◌, ap}
-use borrow.Author.Rules.{rules}
 use Rattle.model.specs.Word.{get16}
 use Rattle.state.proofs.wires.now_at.Goals as goal
 

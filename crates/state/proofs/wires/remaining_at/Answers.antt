@@ -3,7 +3,6 @@ use mathlib.Core.Path.{ap}
 use Prim.Native.Nat.{ℕ}
 use native.Mathlib.Omega.{arith}
 use lib.ListN.{get_or}
-use borrow.Author.Rules.{rules}
 use Rattle.state.proofs.Remaining.{remaining-inside}
 use Rattle.state.proofs.wires.remaining_at.Goals as goal
 

@@ -1,6 +1,5 @@
 -- `remaining_byte` meets its contract. Assumes nothing.
 use native.Mathlib.Omega.{arith}
-use borrow.Author.Rules.{rules}
 use Rattle.state.proofs.Standing.{place-low}
 use Rattle.state.proofs.Remaining.{full-place, compact-place}
 use Rattle.state.proofs.wires.remaining_byte.Goals as goal

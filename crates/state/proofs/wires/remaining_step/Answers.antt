@@ -1,6 +1,5 @@
 -- `remaining_step` meets its contract. Assumes nothing.
 use native.Mathlib.Omega.{arith}
-use borrow.Author.Rules.{rules}
 use borrow.Author.Tests.{ltb-true}
 use Rattle.laws.specs.Refusals.Laws.{and-true}
 use Rattle.state.proofs.Remaining.{step-starts, step-rests, step_counts}

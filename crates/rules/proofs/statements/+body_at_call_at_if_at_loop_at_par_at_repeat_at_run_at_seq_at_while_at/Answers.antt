@@ -1,50 +1,22 @@
--- The functions that run statements, closed over their cycle of calls; below, what falls along the calls, and each one's needs.
--- A body: none, or the root of its number, with fewer procedures to call.
--- A call: its delay, and then the body.
--- What falls along the calls from statement to statement: the number of procedures that may be called, and then the nodes from a child on, of which
--- there are at most 200. A node's own call stands above its kind's.
--- Assumes nothing: measures, and the two forms of each precondition, at a measure and below it.
--- An if: its wait, and then the branch that its test picks.
--- A loop: as a repeat without a test; its last turn is one that comes to an exit.
--- A parallel: the first side, and from its last words the second.
--- A repeat: as a while, with the test after the turn, and before it the latching.
--- A node: its statement by its kind.
--- A sequence: the first part, and from its last words the second.
--- A while: the run with the whole budget is, after each turn, the run from the words at hand with what is left (`Going`).
-use Prim.Native.Nat.{ℕ}
+-- The functions that run statements, closed over their cycle of calls.
+-- Assumes nothing.
+use Prim.Native.Nat.{ℕ, ◌≤◌}
 use native.Mathlib.Omega.{arith}
-use Rattle.rules.proofs.Runs.{leaving-as, run_ok}
-use Rattle.rules.proofs.Procedures.{called-none, called-body, body-ready}
-use Rattle.rules.proofs.Parts.{seq-second}
-use Rattle.rules.proofs.Runs.{call-still, call-on}
-use Prim.Native.Nat.{ℕ}
-use Rattle.rules.proofs.Parts.{ite-first, ite-second}
-use Rattle.rules.proofs.Runs.{if-still, if-then, if-else}
 use borrow.Author.Tests.{not-true, not-false}
 use Rattle.model.specs.Rules.{run}
-use Rattle.rules.proofs.Parts.{loop-body, loop-delay}
-use Rattle.rules.proofs.Loops.{loop-unended, loop-out, loop-on, going_start, going-still, going-caught, going_on}
-use Rattle.rules.proofs.Parts.{par-first, par-second}
-use Rattle.rules.proofs.Runs.{par-ends, par-second-still, par-still}
-use Rattle.rules.proofs.Parts.{repeat-body, repeat-delay}
-use Rattle.rules.proofs.Loops.{repeat-late, repeat-unended, repeat-out, repeat-end, repeat-on, going_start, going-still, going-unended, going_end, going_on}
-use Prim.Native.Nat.{ℕ, ◌≤◌}
 use Rattle.model.specs.Procedures.{inline}
 use Rattle.laws.specs.Program.Trees.{stmt-none, at_tick, at-loop, at_exit, at_call}
 use Rattle.program.specs.Ends.{past-later}
 use Rattle.program.proofs.Children.{Inner, second-later, assign-read, assign-elem-read, seq-read, par-read, ite-read, while-read, repeat_read}
+use Rattle.rules.proofs.Runs.{leaving-as, run_ok, call-still, call-on, if-still, if-then, if-else, par-ends, par-second-still, par-still, run-exit, seq-ends, seq-unended}
+use Rattle.rules.proofs.Procedures.{called-none, called-body, body-ready, meant-as}
+use Rattle.rules.proofs.Parts.{seq-second, ite-first, ite-second, loop-body, loop-delay, par-first, par-second, repeat-body, repeat-delay, ready-as, seq-first, while-body, while-delay}
+use Rattle.rules.proofs.Loops.{loop-unended, loop-out, loop-on, going_start, going-still, going-caught, going_on, repeat-late, repeat-unended, repeat-out, repeat-end, repeat-on, going-unended, going_end, while-out, while-end, while-unended, while-on}
 use Rattle.rules.proofs.Nodes.{low_ok}
-use Rattle.rules.proofs.Parts.{ready-as}
-use Rattle.rules.proofs.Procedures.{meant-as}
-use Rattle.rules.proofs.Runs.{leaving-as, run_ok, run-exit}
-use Rattle.rules.proofs.Parts.{seq-first, seq-second}
-use Rattle.rules.proofs.Runs.{seq-ends, seq-unended}
-use Rattle.rules.proofs.Parts.{while-body, while-delay}
-use Rattle.rules.proofs.Loops.{while-out, while-end, while-unended, while-on, going_start, going-still, going-unended, going_end, going_on}
 use Rattle.rules.proofs.statements.+body_at_call_at_if_at_loop_at_par_at_repeat_at_run_at_seq_at_while_at.Goals as goal
 use Rattle.rules.proofs.statements.+body_at_call_at_if_at_loop_at_par_at_repeat_at_run_at_seq_at_while_at.Goals.{run_at-After-next-i2, run_at-In_default}
 
--- body_at
+-- A body: none, or the root of its number, with fewer procedures to call.
 
 pub body_at-returns-then-procedures-p : goal.body_at-returns-then-procedures-p
 body_at-returns-then-procedures-p t c =
@@ -71,7 +43,7 @@ body_at-returns t c =
     let is = called-body _ _ pre.0.fit.laid _ pre.0.enough _ if1.false _ skip.ensures in
     leaving-as _ _ _ _ _ is c.run_at.ensures
 
--- call_at
+-- A call: its delay, and then the body.
 
 pub call_at-returns-then-budget-d : goal.call_at-returns-then-budget-d
 call_at-returns-then-budget-d t c =
@@ -93,7 +65,7 @@ call_at-returns t c =
     let if1 = c.if-budget-d in
     record { stands = call-on _ _ _ _ _ _ _ if1.false _ (c.later.ensures _) c.body_at-body.ensures.stands; whole = c.body_at-body.ensures.whole }
 
--- if_at
+-- An if: its wait, and then the branch that its test picks.
 
 pub if_at-returns-then-budget-d : goal.if_at-returns-then-budget-d
 if_at-returns-then-budget-d t c =
@@ -139,7 +111,7 @@ if_at-returns t c =
     let if2 = c.if-value-eq0 in
     record { stands = if-then _ _ _ _ _ _ _ _ _ if1.false _ eval-at.ensures _ (c.later-2.ensures _) if2.false c.run_at-2.ensures.stands; whole = c.run_at-2.ensures.whole }
 
--- loop_at
+-- A loop: as a repeat without a test; its last turn is one that comes to an exit.
 
 pub loop_at-loop-costs-init : goal.loop_at-loop-costs-init
 loop_at-loop-costs-init t c = (going_start _ _, c.requires.1)
@@ -198,7 +170,7 @@ loop_at-loop-costs-preserved t c =
     let on = loop-on _ _ _ _ _ _ _ turn (not-false run_at.result.ended if1.false) c.if-rest-d.false (loop-delay pre.0) in
     (going_on loop.invariant.0 _ _ on _ (omega (arith, turn.within)), run_at.ensures.whole)
 
--- par_at
+-- A parallel: the first side, and from its last words the second.
 
 pub par_at-run_at-first-requires : goal.par_at-run_at-first-requires
 par_at-run_at-first-requires t c =
@@ -240,7 +212,7 @@ par_at-returns t c =
       whole = run-at2.ensures.whole;
     }
 
--- repeat_at
+-- A repeat: as a while, with the test after the turn, and before it the latching.
 
 pub repeat_at-loop-left-init : goal.repeat_at-loop-left-init
 repeat_at-loop-left-init t c =
@@ -332,7 +304,7 @@ repeat_at-returns t c =
     let loop = c.loop-left in
     record { stands = going-still loop.invariant.0 (repeat-late _ _ _ _ _ _ c.loop-left-test.false) (c.unfinished-2.ensures _); whole = loop.invariant.1 }
 
--- run_at
+-- A node: its statement by its kind.
 
 inner_of : (t : ℕ) (w : run_at-After-next-i2 t)
     → let args = w.args in
@@ -487,7 +459,7 @@ unfolding inline
 run_at-returns-in_default t c =
     leaving-as _ _ _ _ _ (meant-as _ _ _ (repeat_read (inner_of t (goal.at.run_at-returns-in_default t c).After-next-i2) (last_of t (goal.at.run_at-returns-in_default t c).In_default) (omega arith) (omega arith) (omega arith) (omega arith))) c.repeat_at.ensures
 
--- seq_at
+-- A sequence: the first part, and from its last words the second.
 
 pub seq_at-run_at-first-requires : goal.seq_at-run_at-first-requires
 seq_at-run_at-first-requires t c =
@@ -521,7 +493,7 @@ seq_at-returns t c =
     let if1 = c.if-not-first in
     record { stands = seq-ends _ _ _ _ _ _ _ run_at.ensures.stands (not-false run_at.result.ended if1.false) _ _ _ c.run_at-rest.ensures.stands (c.later.ensures _); whole = c.run_at-rest.ensures.whole }
 
--- while_at
+-- A while: the run with the whole budget is, after each turn, the run from the words at hand with what is left (`Going`).
 
 pub while_at-overflow_add-test : goal.while_at-overflow_add-test
 while_at-overflow_add-test t c =

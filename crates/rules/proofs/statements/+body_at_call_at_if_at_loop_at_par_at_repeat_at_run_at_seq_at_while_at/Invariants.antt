@@ -1,27 +1,13 @@
--- The functions that run statements, closed over their cycle of calls; below, what falls along the calls, and each one's needs.
--- A body: none, or the root of its number, with fewer procedures to call.
--- A call: its delay, and then the body.
 -- What falls along the calls from statement to statement: the number of procedures that may be called, and then the nodes from a child on, of which
--- there are at most 200. A node's own call stands above its kind's.
--- Assumes nothing: measures, and the two forms of each precondition, at a measure and below it.
--- An if: its wait, and then the branch that its test picks.
--- A loop: as a repeat without a test; its last turn is one that comes to an exit.
--- A parallel: the first side, and from its last words the second.
--- A repeat: as a while, with the test after the turn, and before it the latching.
--- A node: its statement by its kind.
--- A sequence: the first part, and from its last words the second.
--- A while: the run with the whole budget is, after each turn, the run from the words at hand with what is left (`Going`).
-use Prim.Native.Nat.{◌+◌, ◌-◌, ◌*◌}
-use Rattle.model.specs.Program.{node_count}
+-- there are at most 200. A node's own call stands above its kind's. And what each loop keeps: the run with the whole budget is the run from the words at
+-- hand with what is left of it (`Going`).
+-- Assumes nothing: measures and invariants.
 use mathlib.Core.Path.{◌≡◌}
+use Prim.Native.Nat.{◌+◌, ◌-◌, ◌*◌}
 use lib.ListN.{length}
-use Rattle.model.specs.Program.{loop}
+use Rattle.model.specs.Program.{node_count, loop, repeat, expr_at, while}
 use Rattle.model.specs.Rules.{run}
 use Rattle.rules.specs.Ran.{costs_of, store_of, meant_at}
-use Rattle.rules.proofs.Loops.{Going}
-use Rattle.model.specs.Program.{repeat, expr_at}
-use Rattle.rules.proofs.Loops.{Going}
-use Rattle.model.specs.Program.{while, expr_at}
 use Rattle.rules.proofs.Loops.{Going}
 use Rattle.rules.proofs.statements.+body_at_call_at_if_at_loop_at_par_at_repeat_at_run_at_seq_at_while_at.Given as goal
 

@@ -1,5 +1,4 @@
 -- The answer of a run that ended, and of one that has not.
-use borrow.Author.Rules.{rules}
 use Rattle.rules.proofs.Answers.{answer-ended, answer-open}
 use Rattle.rules.proofs.answer.Goals as goal
 

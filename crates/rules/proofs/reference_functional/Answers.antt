@@ -1,6 +1,5 @@
 -- The check's refusals, and the main program with the costs of a functional circuit.
 use mathlib.Core.Path.{sym, ◌∙◌}
-use borrow.Author.Rules.{rules}
 use Rattle.laws.specs.Functional.Accepted.{table_alone}
 use Rattle.rules.proofs.Answers.{main-ready, functional-refused, functional-runs, functional-scans}
 use Rattle.rules.proofs.reference_functional.Goals as goal

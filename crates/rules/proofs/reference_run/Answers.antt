@@ -1,6 +1,5 @@
 -- The check's refusals, and the main program with the costs of a pulse length.
 use mathlib.Core.Path.{sym, ◌∙◌}
-use borrow.Author.Rules.{rules}
 use Rattle.rules.proofs.Answers.{main-ready, call-refused, call-runs}
 use Rattle.rules.proofs.reference_run.Goals as goal
 

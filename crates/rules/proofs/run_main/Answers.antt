@@ -1,7 +1,6 @@
 -- The two refusals of a run, and the run of the main program.
 use mathlib.Core.Path.{sym, ◌∙◌, ap}
 use lib.ListN.{length}
-use borrow.Author.Rules.{rules}
 use Rattle.rules.proofs.Parts.{ready-as}
 use Rattle.rules.proofs.Runs.{leaving-as}
 use Rattle.rules.proofs.Stores.{length-listed}

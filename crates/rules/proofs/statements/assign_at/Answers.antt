@@ -3,7 +3,6 @@ use mathlib.Core.Path.{◌∙◌}
 use Prim.Native.Nat.{◌<◌}
 use native.Mathlib.Omega.{arith}
 use lib.ListN.{length, length-set}
-use borrow.Author.Rules.{rules}
 use Rattle.rules.proofs.Parts.{assign-low}
 use Rattle.rules.proofs.Runs.{run-assign}
 use Rattle.rules.proofs.Stores.{store-set}

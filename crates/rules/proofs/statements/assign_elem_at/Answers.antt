@@ -3,7 +3,6 @@ use mathlib.Core.Path.{◌∙◌}
 use Prim.Native.Nat.{◌<◌}
 use native.Mathlib.Omega.{arith}
 use lib.ListN.{length, length-set}
-use borrow.Author.Rules.{rules}
 use Rattle.rules.proofs.Agree.{element-low}
 use Rattle.rules.proofs.Parts.{array-low}
 use Rattle.rules.proofs.Runs.{run-assign-elem}
@@ -19,7 +18,7 @@ eval_at-value-requires c = let pre = c.requires in (pre.0.laid, pre.2)
 pub offset_bounds-words-element_word : goal.offset_bounds-words-element_word
 offset_bounds-words-element_word c =
     let pre = c.requires in
-    omega (arith, c.element_word.ensures, element-low _ c.eval-at.result (array-low pre.0))
+    omega (arith, c.element_word.ensures, element-low _ c.eval_at-index.result (array-low pre.0))
 
 pub bounds-words-element_word : goal.bounds-words-element_word
 bounds-words-element_word c =

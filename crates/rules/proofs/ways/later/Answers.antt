@@ -1,6 +1,5 @@
 -- A run that begins later.
 use native.Mathlib.Omega.{arith}
-use borrow.Author.Rules.{rules}
 use Rattle.rules.proofs.Runs.{run-later}
 use Rattle.rules.proofs.ways.later.Goals as goal
 

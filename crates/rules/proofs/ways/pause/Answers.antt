@@ -1,7 +1,6 @@
 -- A wait, and then nothing more.
 use mathlib.Core.Path.{sym}
 use native.Mathlib.Omega.{arith}
-use borrow.Author.Rules.{rules}
 use Rattle.laws.specs.Rules.Laws.{wait-short}
 use Rattle.rules.specs.Ran.{run_of}
 use Rattle.rules.proofs.Runs.{stands-still, wait-ends}

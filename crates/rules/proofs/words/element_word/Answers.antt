@@ -1,6 +1,5 @@
 -- The word of an element, by computation.
 use mathlib.Core.Path.{refl}
-use borrow.Author.Rules.{rules}
 use Rattle.model.specs.Word.{element_word}
 use Rattle.rules.proofs.words.element_word.Goals as goal
 

@@ -1,9 +1,7 @@
 -- The first x words are read.
 use mathlib.Core.Path.{◌≡◌, refl}
-use Prim.Native.Nat.{◌-◌}
 use native.Mathlib.Omega.{arith}
-use Rattle.model.specs.Calls.{word_at}
-use Rattle.rules.proofs.Stores.{Filled, filled_more, filled-listed}
+use Rattle.rules.proofs.Stores.{filled_more, filled-listed}
 use Rattle.rules.proofs.words.start_words.Goals as goal
 
 pub loop-x-init : goal.loop-x-init

@@ -1,9 +1,8 @@
 -- The first x words are copied.
 use mathlib.Core.Path.{◌≡◌, refl}
-use Prim.Native.Nat.{◌-◌}
 use native.Mathlib.Omega.{arith}
 use Rattle.rules.specs.Ran.{store_of}
-use Rattle.rules.proofs.Stores.{Filled, filled_more, filled-listed}
+use Rattle.rules.proofs.Stores.{filled_more, filled-listed}
 use Rattle.rules.proofs.words.variables.Goals as goal
 
 pub loop-x-init : goal.loop-x-init

@@ -23,7 +23,6 @@ write_file-requires c =
     let args = c.args in
     let put-netlist = c.put_netlist-made in
     let check-parts = c.check_parts-checked in
-    let enum_told = c.in_default in
     let lengths = args.lengths.now in
     let pulses = args.pulses.now in
     let parts = args.parts.now in
@@ -35,7 +34,6 @@ pub returns : goal.returns
 returns c =
     let args = c.args in
     let check-parts = c.check_parts-checked in
-    let enum_told = c.in_default in
     let put-netlist = c.put_netlist-made in
     let pulse-at = c.pulse_at-pulse in
     let lengths = args.lengths.now in

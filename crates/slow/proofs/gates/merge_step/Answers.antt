@@ -1,14 +1,12 @@
 -- `merge_step` meets its contract. Assumes nothing.
-use mathlib.Core.Path.{◌≡◌, refl, sym, ◌∙◌, ap}
+use mathlib.Core.Path.{◌≡◌, refl, sym, ◌∙◌}
 use Prim.Native.Nat.{ℕ}
-use borrow.Author.Rules.{rules}
 use borrow.Author.Tests.{eq-eqb, ne_eqb}
 use mathlib.Core.Bool.{Bool, true, false}
 use Rattle.model.specs.declared.Merge.{Merge}
 use Rattle.model.specs.Circuit.{merge_step, return_step, step_of}
 use Rattle.slow.specs.Ring.{merge_in}
-use Rattle.slow.proofs.gates.merge_step.Statement.{statement}
-use Rattle.slow.proofs.gates.merge_step.Tie as tie
+use Rattle.slow.proofs.gates.merge_step.Goals as goal
 
 call_step : (k : ℕ) → k ≡ 39 → (m : Merge) (a b : Bool) → merge_in k m a b ≡ return_step true false m a b
 unfolding merge_in step_of
@@ -18,15 +16,12 @@ other_step : (k : ℕ) → (k ≡ 39 → ⊥) → (m : Merge) (a b : Bool) → m
 unfolding merge_in step_of
 other_step k e m a b = rw (ne_eqb _ _ e) refl
 
-returns : tie.Need-returns
+pub returns-then-kind-eq39 : goal.returns-then-kind-eq39
+returns-then-kind-eq39 c =
+    let args = c.args in
+    c.step_call.ensures ∙ sym (call_step args.kind c.if-kind-eq39.true args.held args.a args.b)
+
+pub returns : goal.returns
 returns c =
-    let args = c.before.before.args in
-    c.step_call.ensures ∙ sym (call_step args.kind c.before.if1.true args.held args.a args.b)
-
-returns-2 : tie.Need-returns-2
-returns-2 c =
-    let args = c.before.before.args in
-    c.step.ensures ∙ sym (other_step args.kind c.before.if1.false args.held args.a args.b)
-
-pub merge-step-spec : {M : Type 1} → statement M
-merge-step-spec = tie.close (tie.spec (λ c κs. search rules) returns (λ c κs. search rules) returns-2)
+    let args = c.args in
+    c.step.ensures ∙ sym (other_step args.kind c.if-kind-eq39.false args.held args.a args.b)

@@ -6,42 +6,27 @@ use Rattle.functional.proofs.compile.Goals as goal
 
 pub returns-in-Refused : goal.returns-in-Refused
 returns-in-Refused c =
-    let at-scan = c in
-    let clauses = compile-refused at-scan.args.options _ _ (sym at-scan.scan_functional-told.ensures.checked ∙ c.in-Refused.is) in record { answer = clauses.0; lent = clauses.1 }
+    let clauses = compile-refused c.args.options _ _ (sym c.scan_functional-told.ensures.checked ∙ c.in-Refused.is) in record { answer = clauses.0; lent = clauses.1 }
 
 pub count_main-n-requires : goal.count_main-n-requires
 count_main-n-requires c =
-    let at_told = c in
-    let at-scan = at_told in
-    let scan = at-scan.scan_functional-told.ensures in
-    scanned-main at-scan.args.options _ (sym scan.checked ∙ at_told.in_default.is) scan
+    let scan = c.scan_functional-told.ensures in
+    scanned-main c.args.options _ (sym scan.checked ∙ c.in_default.is) scan
 
 pub returns-then-file-count : goal.returns-then-file-count
 returns-then-file-count c =
-    let at_count = c in
-    let at_told = at_count in
-    let at-scan = at_told in
-    let clauses = compile-short at-scan.args.options _ (sym at-scan.scan_functional-told.ensures.checked ∙ at_told.in_default.is)
-    at_count.count_main-n.ensures.cells (omega (arith, c.if-file-count.true)) in record { answer = clauses.0; lent = clauses.1 }
+    let clauses = compile-short c.args.options _ (sym c.scan_functional-told.ensures.checked ∙ c.in_default.is)
+    c.count_main-n.ensures.cells (omega (arith, c.if-file-count.true)) in record { answer = clauses.0; lent = clauses.1 }
 
 pub put_file-finish-requires : goal.put_file-finish-requires
 put_file-finish-requires c =
-    let at-if = c in
-    let at_count = at-if in
-    let at_told = at_count in
-    let at-scan = at_told in
-    let scan = at-scan.scan_functional-told.ensures in (
-      scanned-main at-scan.args.options _ (sym scan.checked ∙ at_told.in_default.is) scan,
-      at_count.count_main-n.ensures.cells,
-      omega (arith, at-if.if-file-count.false),
+    let scan = c.scan_functional-told.ensures in (
+      scanned-main c.args.options _ (sym scan.checked ∙ c.in_default.is) scan,
+      c.count_main-n.ensures.cells,
+      omega (arith, c.if-file-count.false),
     )
 
 pub returns : goal.returns
 returns c =
-    let at-file = c in
-    let at-if = at-file in
-    let at_count = at-if in
-    let at_told = at_count in
-    let at-scan = at_told in
-    let clauses = compile-done at-scan.args.options _ (sym at-scan.scan_functional-told.ensures.checked ∙ at_told.in_default.is)
-    at_count.count_main-n.ensures.cells _ (omega (arith, at-if.if-file-count.false)) at-file.put_file-finish.ensures.finish at-file.put_file-finish.ensures.lent in record { answer = clauses.0; lent = clauses.1 }
+    let clauses = compile-done c.args.options _ (sym c.scan_functional-told.ensures.checked ∙ c.in_default.is)
+    c.count_main-n.ensures.cells _ (omega (arith, c.if-file-count.false)) c.put_file-finish.ensures.finish c.put_file-finish.ensures.lent in record { answer = clauses.0; lent = clauses.1 }

@@ -12,14 +12,11 @@ put_netlist-finish-requires c =
 
 pub put_in_place-requires : goal.put_in_place-requires
 put_in_place-requires c =
-    let at-net = c in
-    let pre = at-net.requires in
-    (omega (arith, pre.0.few, pre.1), omega arith, omega (arith, pre.2, listed-size _ pre.1 _ pre.2 at-net.put_netlist-finish.ensures.cells))
+    let pre = c.requires in
+    (omega (arith, pre.0.few, pre.1), omega arith, omega (arith, pre.2, listed-size _ pre.1 _ pre.2 c.put_netlist-finish.ensures.cells))
 
 pub returns : goal.returns
 returns c =
-    let at_place = c in
-    let at-net = at_place in
-    let pre = at-net.requires in
-    let net = at-net.put_netlist-finish.ensures in
-    record { lent = file-put _ pre.1 _ pre.2 net.cells net.finish at_place.put_in_place.ensures; finish = net.finish }
+    let pre = c.requires in
+    let net = c.put_netlist-finish.ensures in
+    record { lent = file-put _ pre.1 _ pre.2 net.cells net.finish c.put_in_place.ensures; finish = net.finish }

@@ -12,21 +12,14 @@ loop-k-init c = (omega arith, refl, refl)
 
 pub loop-k-preserved : goal.loop-k-preserved
 loop-k-preserved c =
-    let at-put5 = c in
-    let at-put4 = at-put5 in
-    let at_test = at-put4 in
-    let inv = at_test.loop-k.invariant in (
-      omega (arith, at_test.loop-k-test.true),
-      at-put5.put-in-loop-k-2.auto.cells ∙ at-put4.put-in-loop-k.auto.cells ∙ inv.1,
-      sym (arrays-next _ _ at_test.loop-k-test.true at-put4.put-in-loop-k.ensures at-put5.put-in-loop-k-2.ensures) ∙ inv.2,
+    let inv = c.loop-k.invariant in (
+      omega (arith, c.loop-k-test.true),
+      c.put-in-loop-k-2.auto.cells ∙ c.put-in-loop-k.auto.cells ∙ inv.1,
+      sym (arrays-next _ _ c.loop-k-test.true c.put-in-loop-k.ensures c.put-in-loop-k-2.ensures) ∙ inv.2,
     )
 
 pub returns : goal.returns
 returns c =
-    let at_each = c in
-    let at_same = at_each in
-    let at-put3 = at_same in
-    let at-put2 = at-put3 in
-    head_done _ at_same.same.result at_each.same-2.result at-put2.put.ensures at-put2.put-2.ensures
-    at-put3.put-3.ensures at_same.same.ensures at_each.same-2.ensures at_each.put_each.ensures.cells
+    head_done _ c.same.result c.same-2.result c.put.ensures c.put-2.ensures
+    c.put-3.ensures c.same.ensures c.same-2.ensures c.put_each.ensures.cells
     (sym c.loop-k.invariant.2 ∙ arrays-end _ _ c.loop-k-test.false)

@@ -16,27 +16,23 @@ loop-k-init c =
 
 pub cell_at-c-requires : goal.cell_at-c-requires
 cell_at-c-requires c =
-    let at-loop = c in
-    let start = at-loop in
     let low = c.loop-k-test.true in (
-      omega (arith, low, start.requires.0),
-      rw (rest-whole at-loop.loop-k.d start.args.from)
-          (omega (arith, low, start.requires.1, start.requires.2, at-loop.loop-k.invariant.1, length-drop start.args.from at-loop.loop-k.d)),
+      omega (arith, low, c.requires.0),
+      rw (rest-whole c.loop-k.d c.args.from)
+          (omega (arith, low, c.requires.1, c.requires.2, c.loop-k.invariant.1, length-drop c.args.from c.loop-k.d)),
     )
 
 pub loop-k-preserved : goal.loop-k-preserved
 loop-k-preserved c =
-    let at_next = c in
-    let at-loop = at_next in
-    let args = at-loop.args in
+    let args = c.args in
     let net = cells_at in_list (drop args.from args.d.now) 0 args.n in
-    let low = at_next.loop-k-test.true in
-    let filled = at-loop.loop-k.invariant.2 in
-    let read = rw (rest-whole at-loop.loop-k.d args.from) at at_next.cell_at-c.ensures in (
+    let low = c.loop-k-test.true in
+    let filled = c.loop-k.invariant.2 in
+    let read = rw (rest-whole c.loop-k.d args.from) at c.cell_at-c.ensures in (
       omega (arith, low),
-      at_next.put_next-sum.auto.d ∙ at-loop.loop-k.invariant.1,
-      at_next.put_next-sum.ensures net args.d.now (cells-length in_list (drop args.from args.d.now) 0 args.n)
-          (next-cell args.d.now args.from args.n args.finish at-loop.requires.1 low filled ∙ sym read) filled,
+      c.put_next-sum.auto.d ∙ c.loop-k.invariant.1,
+      c.put_next-sum.ensures net args.d.now (cells-length in_list (drop args.from args.d.now) 0 args.n)
+          (next-cell args.d.now args.from args.n args.finish c.requires.1 low filled ∙ sym read) filled,
     )
 
 pub shape_of-d : goal.shape_of-d

@@ -12,19 +12,19 @@ pub returns-then-kind-eq1 : goal.returns-then-kind-eq1
 unfolding expr_count
 returns-then-kind-eq1 t c =
     let const-of : expr_at c.args.program.now c.args.i ≡ const c.expr_node-node.result.n = c.expr_node-node.ensures.constant c.if-kind-eq1.true in
-    rw (const-of) refl
+    rw const-of refl
 
 pub returns-then-kind-eq2 : goal.returns-then-kind-eq2
 unfolding expr_count
 returns-then-kind-eq2 t c =
     let here_of : (c.args.i < node_count c.args.program.now) × (c.expr_node-node.result.kind < 16) × (c.expr_node-node.result ≡ node_at c.args.program.now c.args.i) = c.expr_node-node.ensures.here c.if-kind-eq1.false in
     let var-of : expr_at c.args.program.now c.args.i ≡ var c.expr_node-node.result.n = at-var _ _ here_of.0 _ here_of.2 c.if-kind-eq2.true in
-    rw (var-of) refl
+    rw var-of refl
 
 pub overflow_add-first : goal.overflow_add-first
 overflow_add-first t c =
     let here_of : (c.args.i < node_count c.args.program.now) × (c.expr_node-node.result.kind < 16) × (c.expr_node-node.result ≡ node_at c.args.program.now c.args.i) = c.expr_node-node.ensures.here c.if-kind-eq1.false in
-    omega (arith, (here_of).0, c.requires.0.short)
+    omega (arith, here_of.0, c.requires.0.short)
 
 pub count_expr-requires : goal.count_expr-requires
 unfolding expr_count
@@ -32,16 +32,16 @@ count_expr-requires t c =
     let here_of : (c.args.i < node_count c.args.program.now) × (c.expr_node-node.result.kind < 16) × (c.expr_node-node.result ≡ node_at c.args.program.now c.args.i) = c.expr_node-node.ensures.here c.if-kind-eq1.false in
     let compl-of : expr_at c.args.program.now c.args.i ≡ compl (expr_at c.args.program.now (c.args.i + 1)) = at-compl _ _ here_of.0 _ here_of.2 c.if-kind-eq3.true in
     let pre = c.requires in
-    let basic = rw (compl-of) at pre.1 in
-    let bound = rw (compl-of) at pre.2 in
-    (omega (arith, (here_of).0), (pre.0, basic, omega (arith, bound)))
+    let basic = rw compl-of at pre.1 in
+    let bound = rw compl-of at pre.2 in
+    (omega (arith, here_of.0), (pre.0, basic, omega (arith, bound)))
 
 pub overflow_add-result : goal.overflow_add-result
 unfolding expr_count
 overflow_add-result t c =
     let here_of : (c.args.i < node_count c.args.program.now) × (c.expr_node-node.result.kind < 16) × (c.expr_node-node.result ≡ node_at c.args.program.now c.args.i) = c.expr_node-node.ensures.here c.if-kind-eq1.false in
     let compl-of : expr_at c.args.program.now c.args.i ≡ compl (expr_at c.args.program.now (c.args.i + 1)) = at-compl _ _ here_of.0 _ here_of.2 c.if-kind-eq3.true in
-    let bound = rw (compl-of) at c.requires.2 in
+    let bound = rw compl-of at c.requires.2 in
     omega (arith, bound, c.count_expr.ensures)
 
 pub returns-then-kind-eq3 : goal.returns-then-kind-eq3
@@ -49,7 +49,7 @@ unfolding expr_count
 returns-then-kind-eq3 t c =
     let here_of : (c.args.i < node_count c.args.program.now) × (c.expr_node-node.result.kind < 16) × (c.expr_node-node.result ≡ node_at c.args.program.now c.args.i) = c.expr_node-node.ensures.here c.if-kind-eq1.false in
     let compl-of : expr_at c.args.program.now c.args.i ≡ compl (expr_at c.args.program.now (c.args.i + 1)) = at-compl _ _ here_of.0 _ here_of.2 c.if-kind-eq3.true in
-    rw (compl-of) (omega (arith, c.count_expr.ensures))
+    rw compl-of (omega (arith, c.count_expr.ensures))
 
 pub next-second-requires : goal.next-second-requires
 next-second-requires t c = omega (arith, c.requires.0.short)
@@ -60,11 +60,11 @@ count_expr-e-requires t c =
     let here_of : (c.args.i < node_count c.args.program.now) × (c.expr_node-node.result.kind < 16) × (c.expr_node-node.result ≡ node_at c.args.program.now c.args.i) = c.expr_node-node.ensures.here c.if-kind-eq1.false in
     let inner_of : Inner c.args.program.now c.args.ends.now c.args.i c.expr_node-node.result c.next-second.result = record { laid = c.requires.0; here = here_of.0; node = here_of.2; next = c.next-second.ensures } in
     let op-of : expr_at c.args.program.now c.args.i ≡ op c.expr_node-node.result.kind (expr_at c.args.program.now (c.args.i + 1)) (expr_at c.args.program.now c.next-second.result) = let basic = c.requires.1 in
-    op-read (inner_of) (here_of).1 c.if-kind-eq1.false c.if-kind-eq2.false c.if-kind-eq3.false (λ e. rw (elem-read (inner_of) e) at basic) in
+    op-read inner_of here_of.1 c.if-kind-eq1.false c.if-kind-eq2.false c.if-kind-eq3.false (λ e. rw (elem-read inner_of e) at basic) in
     let pre = c.requires in
-    let basic = rw (op-of) at pre.1 in
-    let bound = rw (op-of) at pre.2 in
-    (omega (arith, (inner_of).here), (pre.0, basic.0, omega (arith, bound)))
+    let basic = rw op-of at pre.1 in
+    let bound = rw op-of at pre.2 in
+    (omega (arith, inner_of.here), (pre.0, basic.0, omega (arith, bound)))
 
 pub count_expr-f-requires : goal.count_expr-f-requires
 unfolding expr_count
@@ -72,11 +72,11 @@ count_expr-f-requires t c =
     let here_of : (c.args.i < node_count c.args.program.now) × (c.expr_node-node.result.kind < 16) × (c.expr_node-node.result ≡ node_at c.args.program.now c.args.i) = c.expr_node-node.ensures.here c.if-kind-eq1.false in
     let inner_of : Inner c.args.program.now c.args.ends.now c.args.i c.expr_node-node.result c.next-second.result = record { laid = c.requires.0; here = here_of.0; node = here_of.2; next = c.next-second.ensures } in
     let op-of : expr_at c.args.program.now c.args.i ≡ op c.expr_node-node.result.kind (expr_at c.args.program.now (c.args.i + 1)) (expr_at c.args.program.now c.next-second.result) = let basic = c.requires.1 in
-    op-read (inner_of) (here_of).1 c.if-kind-eq1.false c.if-kind-eq2.false c.if-kind-eq3.false (λ e. rw (elem-read (inner_of) e) at basic) in
+    op-read inner_of here_of.1 c.if-kind-eq1.false c.if-kind-eq2.false c.if-kind-eq3.false (λ e. rw (elem-read inner_of e) at basic) in
     let pre = c.requires in
     let n = inner_of in
-    let basic = rw (op-of) at pre.1 in
-    let bound = rw (op-of) at pre.2 in
+    let basic = rw op-of at pre.1 in
+    let bound = rw op-of at pre.2 in
     (omega (arith, n.here, second-later n), (pre.0, basic.1, omega (arith, bound)))
 
 pub overflow_add-result-2 : goal.overflow_add-result-2
@@ -85,8 +85,8 @@ overflow_add-result-2 t c =
     let here_of : (c.args.i < node_count c.args.program.now) × (c.expr_node-node.result.kind < 16) × (c.expr_node-node.result ≡ node_at c.args.program.now c.args.i) = c.expr_node-node.ensures.here c.if-kind-eq1.false in
     let inner_of : Inner c.args.program.now c.args.ends.now c.args.i c.expr_node-node.result c.next-second.result = record { laid = c.requires.0; here = here_of.0; node = here_of.2; next = c.next-second.ensures } in
     let op-of : expr_at c.args.program.now c.args.i ≡ op c.expr_node-node.result.kind (expr_at c.args.program.now (c.args.i + 1)) (expr_at c.args.program.now c.next-second.result) = let basic = c.requires.1 in
-    op-read (inner_of) (here_of).1 c.if-kind-eq1.false c.if-kind-eq2.false c.if-kind-eq3.false (λ e. rw (elem-read (inner_of) e) at basic) in
-    let bound = rw (op-of) at c.requires.2 in
+    op-read inner_of here_of.1 c.if-kind-eq1.false c.if-kind-eq2.false c.if-kind-eq3.false (λ e. rw (elem-read inner_of e) at basic) in
+    let bound = rw op-of at c.requires.2 in
     omega (arith, bound, c.count_expr-e.ensures, c.count_expr-f.ensures)
 
 pub overflow_add-result-3 : goal.overflow_add-result-3
@@ -95,8 +95,8 @@ overflow_add-result-3 t c =
     let here_of : (c.args.i < node_count c.args.program.now) × (c.expr_node-node.result.kind < 16) × (c.expr_node-node.result ≡ node_at c.args.program.now c.args.i) = c.expr_node-node.ensures.here c.if-kind-eq1.false in
     let inner_of : Inner c.args.program.now c.args.ends.now c.args.i c.expr_node-node.result c.next-second.result = record { laid = c.requires.0; here = here_of.0; node = here_of.2; next = c.next-second.ensures } in
     let op-of : expr_at c.args.program.now c.args.i ≡ op c.expr_node-node.result.kind (expr_at c.args.program.now (c.args.i + 1)) (expr_at c.args.program.now c.next-second.result) = let basic = c.requires.1 in
-    op-read (inner_of) (here_of).1 c.if-kind-eq1.false c.if-kind-eq2.false c.if-kind-eq3.false (λ e. rw (elem-read (inner_of) e) at basic) in
-    let bound = rw (op-of) at c.requires.2 in
+    op-read inner_of here_of.1 c.if-kind-eq1.false c.if-kind-eq2.false c.if-kind-eq3.false (λ e. rw (elem-read inner_of e) at basic) in
+    let bound = rw op-of at c.requires.2 in
     omega (arith, bound, c.count_expr-e.ensures, c.count_expr-f.ensures)
 
 pub returns : goal.returns
@@ -105,5 +105,5 @@ returns t c =
     let here_of : (c.args.i < node_count c.args.program.now) × (c.expr_node-node.result.kind < 16) × (c.expr_node-node.result ≡ node_at c.args.program.now c.args.i) = c.expr_node-node.ensures.here c.if-kind-eq1.false in
     let inner_of : Inner c.args.program.now c.args.ends.now c.args.i c.expr_node-node.result c.next-second.result = record { laid = c.requires.0; here = here_of.0; node = here_of.2; next = c.next-second.ensures } in
     let op-of : expr_at c.args.program.now c.args.i ≡ op c.expr_node-node.result.kind (expr_at c.args.program.now (c.args.i + 1)) (expr_at c.args.program.now c.next-second.result) = let basic = c.requires.1 in
-    op-read (inner_of) (here_of).1 c.if-kind-eq1.false c.if-kind-eq2.false c.if-kind-eq3.false (λ e. rw (elem-read (inner_of) e) at basic) in
-    rw (op-of) (omega (arith, c.count_expr-e.ensures, c.count_expr-f.ensures))
+    op-read inner_of here_of.1 c.if-kind-eq1.false c.if-kind-eq2.false c.if-kind-eq3.false (λ e. rw (elem-read inner_of e) at basic) in
+    rw op-of (omega (arith, c.count_expr-e.ensures, c.count_expr-f.ensures))

@@ -1,11 +1,5 @@
--- The functions that count a statement's cells, closed over their cycle of calls; below, what falls along the calls, and each one's needs.
+-- The goals of the functions that count a statement's cells, one function after another; what falls along their calls is in Invariants.antt.
 -- Assumes nothing.
--- What falls along the calls from statement to statement: the nodes from a child on. A node's own call stands above its kind's, and an if above its
--- two branches. Assumes nothing: measures, and the two forms of each precondition, at a measure and below it.
--- An if. Assumes nothing.
--- A while or a repeat. Assumes nothing.
--- A node: its statement by its kind. Assumes nothing.
--- Two statements. Assumes nothing.
 use Prim.Native.Nat.{◌+◌, ◌<◌, ◌≤◌}
 use Rattle.model.specs.Program.{node_count, tick, assign, node_at, expr_at, stmt_at}
 use mathlib.Core.Path.{◌≡◌, ◌∙◌, refl}
@@ -125,20 +119,20 @@ unfolding inline count
 count_stmt-returns-then-kind-eq17 t c =
     let here_of : (c.args.i < node_count c.args.program.now) × (16 < c.stmt_node-node.result.kind) × (c.stmt_node-node.result ≡ node_at c.args.program.now c.args.i) = c.stmt_node-node.ensures.here c.if-kind-eq16.false in
     let tick-of : stmt_at c.args.program.now c.args.i ≡ tick c.stmt_node-node.result.delay = at_tick _ _ here_of.0 _ here_of.2 c.if-kind-eq17.true in
-    rw (tick-of) refl
+    rw tick-of refl
 
 pub count_stmt-overflow_add-i1 : goal.count_stmt-overflow_add-i1
 count_stmt-overflow_add-i1 t c =
     let here_of : (c.args.i < node_count c.args.program.now) × (16 < c.stmt_node-node.result.kind) × (c.stmt_node-node.result ≡ node_at c.args.program.now c.args.i) = c.stmt_node-node.ensures.here c.if-kind-eq16.false in
-    omega (arith, (here_of).0, c.requires.0.short)
+    omega (arith, here_of.0, c.requires.0.short)
 
 pub count_stmt-count_expr-requires : goal.count_stmt-count_expr-requires
 unfolding inline count
 count_stmt-count_expr-requires t c =
     let here_of : (c.args.i < node_count c.args.program.now) × (16 < c.stmt_node-node.result.kind) × (c.stmt_node-node.result ≡ node_at c.args.program.now c.args.i) = c.stmt_node-node.ensures.here c.if-kind-eq16.false in
     let assign-of : stmt_at c.args.program.now c.args.i ≡ assign c.stmt_node-node.result.delay c.stmt_node-node.result.n (expr_at c.args.program.now (c.args.i + 1)) = at-assign _ _ here_of.0 _ here_of.2 c.if-kind-eq18.true in
-    let basic = rw (assign-of) at c.requires.1 in
-    let bound = rw (assign-of) at c.requires.2 in
+    let basic = rw assign-of at c.requires.1 in
+    let bound = rw assign-of at c.requires.2 in
     (c.requires.0, basic, omega (arith, bound))
 
 pub count_stmt-overflow_add-result : goal.count_stmt-overflow_add-result
@@ -146,7 +140,7 @@ unfolding inline count
 count_stmt-overflow_add-result t c =
     let here_of : (c.args.i < node_count c.args.program.now) × (16 < c.stmt_node-node.result.kind) × (c.stmt_node-node.result ≡ node_at c.args.program.now c.args.i) = c.stmt_node-node.ensures.here c.if-kind-eq16.false in
     let assign-of : stmt_at c.args.program.now c.args.i ≡ assign c.stmt_node-node.result.delay c.stmt_node-node.result.n (expr_at c.args.program.now (c.args.i + 1)) = at-assign _ _ here_of.0 _ here_of.2 c.if-kind-eq18.true in
-    let bound = rw (assign-of) at c.requires.2 in
+    let bound = rw assign-of at c.requires.2 in
     omega (arith, bound, c.count_expr.ensures)
 
 pub count_stmt-returns-then-kind-eq18 : goal.count_stmt-returns-then-kind-eq18
@@ -154,7 +148,7 @@ unfolding inline count
 count_stmt-returns-then-kind-eq18 t c =
     let here_of : (c.args.i < node_count c.args.program.now) × (16 < c.stmt_node-node.result.kind) × (c.stmt_node-node.result ≡ node_at c.args.program.now c.args.i) = c.stmt_node-node.ensures.here c.if-kind-eq16.false in
     let assign-of : stmt_at c.args.program.now c.args.i ≡ assign c.stmt_node-node.result.delay c.stmt_node-node.result.n (expr_at c.args.program.now (c.args.i + 1)) = at-assign _ _ here_of.0 _ here_of.2 c.if-kind-eq18.true in
-    rw (assign-of) (omega (arith, c.count_expr.ensures))
+    rw assign-of (omega (arith, c.count_expr.ensures))
 
 pub count_stmt-next-i2-requires : goal.count_stmt-next-i2-requires
 count_stmt-next-i2-requires t c = omega (arith, c.requires.0.short)
@@ -171,7 +165,7 @@ pub count_stmt-returns-then-kind-eq19 : goal.count_stmt-returns-then-kind-eq19
 count_stmt-returns-then-kind-eq19 t c =
     let here_of : (c.args.i < node_count c.args.program.now) × (16 < c.stmt_node-node.result.kind) × (c.stmt_node-node.result ≡ node_at c.args.program.now c.args.i) = c.stmt_node-node.ensures.here c.if-kind-eq16.false in
     let inner_of : Inner c.args.program.now c.args.ends.now c.args.i c.stmt_node-node.result c.next-i2.result = record { laid = c.requires.0; here = here_of.0; node = here_of.2; next = c.next-i2.ensures } in
-    rw (seq-read (inner_of) c.if-kind-eq19.true) c.count_two.ensures
+    rw (seq-read inner_of c.if-kind-eq19.true) c.count_two.ensures
 
 pub count_stmt-count_two-requires-then-kind-eq20 : goal.count_stmt-count_two-requires-then-kind-eq20
 unfolding inline count
@@ -189,7 +183,7 @@ unfolding inline count
 count_stmt-overflow_add-result-then-kind-eq20 t c =
     let here_of : (c.args.i < node_count c.args.program.now) × (16 < c.stmt_node-node.result.kind) × (c.stmt_node-node.result ≡ node_at c.args.program.now c.args.i) = c.stmt_node-node.ensures.here c.if-kind-eq16.false in
     let inner_of : Inner c.args.program.now c.args.ends.now c.args.i c.stmt_node-node.result c.next-i2.result = record { laid = c.requires.0; here = here_of.0; node = here_of.2; next = c.next-i2.ensures } in
-    let bound = rw (par-read (inner_of) c.if-kind-eq20.true) at c.requires.2 in
+    let bound = rw (par-read inner_of c.if-kind-eq20.true) at c.requires.2 in
     omega (arith, bound, c.count_two-then-kind-eq20.ensures)
 
 pub count_stmt-returns-then-kind-eq20 : goal.count_stmt-returns-then-kind-eq20
@@ -197,7 +191,7 @@ unfolding inline count
 count_stmt-returns-then-kind-eq20 t c =
     let here_of : (c.args.i < node_count c.args.program.now) × (16 < c.stmt_node-node.result.kind) × (c.stmt_node-node.result ≡ node_at c.args.program.now c.args.i) = c.stmt_node-node.ensures.here c.if-kind-eq16.false in
     let inner_of : Inner c.args.program.now c.args.ends.now c.args.i c.stmt_node-node.result c.next-i2.result = record { laid = c.requires.0; here = here_of.0; node = here_of.2; next = c.next-i2.ensures } in
-    rw (par-read (inner_of) c.if-kind-eq20.true) (omega (arith, c.count_two-then-kind-eq20.ensures))
+    rw (par-read inner_of c.if-kind-eq20.true) (omega (arith, c.count_two-then-kind-eq20.ensures))
 
 pub count_stmt-next-i3-requires : goal.count_stmt-next-i3-requires
 count_stmt-next-i3-requires t c = omega (arith, c.requires.0.short)
@@ -214,13 +208,13 @@ pub count_stmt-returns-then-kind-eq21 : goal.count_stmt-returns-then-kind-eq21
 count_stmt-returns-then-kind-eq21 t c =
     let here_of : (c.args.i < node_count c.args.program.now) × (16 < c.stmt_node-node.result.kind) × (c.stmt_node-node.result ≡ node_at c.args.program.now c.args.i) = c.stmt_node-node.ensures.here c.if-kind-eq16.false in
     let inner_of : Inner c.args.program.now c.args.ends.now c.args.i c.stmt_node-node.result c.next-i2.result = record { laid = c.requires.0; here = here_of.0; node = here_of.2; next = c.next-i2.ensures } in
-    rw (ite-read (inner_of) _ c.next-i3.ensures c.if-kind-eq21.true) c.count_if.ensures
+    rw (ite-read inner_of _ c.next-i3.ensures c.if-kind-eq21.true) c.count_if.ensures
 
 pub count_stmt-count_loop-requires : goal.count_stmt-count_loop-requires
 count_stmt-count_loop-requires t c =
     let here_of : (c.args.i < node_count c.args.program.now) × (16 < c.stmt_node-node.result.kind) × (c.stmt_node-node.result ≡ node_at c.args.program.now c.args.i) = c.stmt_node-node.ensures.here c.if-kind-eq16.false in
     let inner_of : Inner c.args.program.now c.args.ends.now c.args.i c.stmt_node-node.result c.next-i2.result = record { laid = c.requires.0; here = here_of.0; node = here_of.2; next = c.next-i2.ensures } in
-    let loop-of : 22 ≤ c.stmt_node-node.result.kind = omega (arith, (here_of).1, c.if-kind-eq17.false, c.if-kind-eq18.false, c.if-kind-eq19.false, c.if-kind-eq20.false, c.if-kind-eq21.false) in
+    let loop-of : 22 ≤ c.stmt_node-node.result.kind = omega (arith, here_of.1, c.if-kind-eq17.false, c.if-kind-eq18.false, c.if-kind-eq19.false, c.if-kind-eq20.false, c.if-kind-eq21.false) in
     let n = inner_of in
     let high = loop-of in
     (omega (arith, n.here, second-later n), (c.requires.0, loop-basic n c.requires.1 high, rw (loop-count n c.requires.1 high) at c.requires.2))
@@ -229,8 +223,8 @@ pub count_stmt-returns : goal.count_stmt-returns
 count_stmt-returns t c =
     let here_of : (c.args.i < node_count c.args.program.now) × (16 < c.stmt_node-node.result.kind) × (c.stmt_node-node.result ≡ node_at c.args.program.now c.args.i) = c.stmt_node-node.ensures.here c.if-kind-eq16.false in
     let inner_of : Inner c.args.program.now c.args.ends.now c.args.i c.stmt_node-node.result c.next-i2.result = record { laid = c.requires.0; here = here_of.0; node = here_of.2; next = c.next-i2.ensures } in
-    let loop-of : 22 ≤ c.stmt_node-node.result.kind = omega (arith, (here_of).1, c.if-kind-eq17.false, c.if-kind-eq18.false, c.if-kind-eq19.false, c.if-kind-eq20.false, c.if-kind-eq21.false) in
-    rw (loop-count (inner_of) c.requires.1 (loop-of)) c.count_loop.ensures
+    let loop-of : 22 ≤ c.stmt_node-node.result.kind = omega (arith, here_of.1, c.if-kind-eq17.false, c.if-kind-eq18.false, c.if-kind-eq19.false, c.if-kind-eq20.false, c.if-kind-eq21.false) in
+    rw (loop-count inner_of c.requires.1 loop-of) c.count_loop.ensures
 
 pub count_two-count_stmt-p-requires : goal.count_two-count_stmt-p-requires
 unfolding inline count

@@ -1,11 +1,5 @@
--- The functions that count a statement's cells, closed over their cycle of calls; below, what falls along the calls, and each one's needs.
--- Assumes nothing.
 -- What falls along the calls from statement to statement: the nodes from a child on. A node's own call stands above its kind's, and an if above its
--- two branches. Assumes nothing: measures, and the two forms of each precondition, at a measure and below it.
--- An if. Assumes nothing.
--- A while or a repeat. Assumes nothing.
--- A node: its statement by its kind. Assumes nothing.
--- Two statements. Assumes nothing.
+-- two branches. Assumes nothing.
 use Prim.Native.Nat.{◌+◌, ◌-◌, ◌*◌}
 use Rattle.model.specs.Program.{node_count}
 use Rattle.functional.proofs.counts.+count_if_count_loop_count_stmt_count_two.Given as goal

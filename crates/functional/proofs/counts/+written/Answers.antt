@@ -17,7 +17,7 @@ returns-then-kind-eq18 t c = one_written c.stmt_node-node.ensures _ c.if-kind-eq
 pub overflow_add-i1 : goal.overflow_add-i1
 overflow_add-i1 t c =
     let here_of : (c.args.i < node_count c.args.program.now) × (16 < c.stmt_node-node.result.kind) × (c.stmt_node-node.result ≡ node_at c.args.program.now c.args.i) = c.stmt_node-node.ensures.here (λ e. omega (arith, e, c.if-kind-lt18.false)) in
-    omega (arith, (here_of).0, c.requires.0.short)
+    omega (arith, here_of.0, c.requires.0.short)
 
 pub next-i2-requires : goal.next-i2-requires
 next-i2-requires t c = omega (arith, c.requires.0.short)
@@ -34,7 +34,7 @@ pub returns-then-kind-ge22 : goal.returns-then-kind-ge22
 returns-then-kind-ge22 t c =
     let here_of : (c.args.i < node_count c.args.program.now) × (16 < c.stmt_node-node.result.kind) × (c.stmt_node-node.result ≡ node_at c.args.program.now c.args.i) = c.stmt_node-node.ensures.here (λ e. omega (arith, e, c.if-kind-lt18.false)) in
     let inner_of : Inner c.args.program.now c.args.ends.now c.args.i c.stmt_node-node.result c.next-i2.result = record { laid = c.requires.0; here = here_of.0; node = here_of.2; next = c.next-i2.ensures } in
-    loop-written (inner_of) c.requires.1 _ c.if-kind-ge22.true c.written.ensures
+    loop-written inner_of c.requires.1 _ c.if-kind-ge22.true c.written.ensures
 
 pub next-i3-requires : goal.next-i3-requires
 next-i3-requires t c = omega (arith, c.requires.0.short)
@@ -60,7 +60,7 @@ pub returns-then-kind-eq21 : goal.returns-then-kind-eq21
 returns-then-kind-eq21 t c =
     let here_of : (c.args.i < node_count c.args.program.now) × (16 < c.stmt_node-node.result.kind) × (c.stmt_node-node.result ≡ node_at c.args.program.now c.args.i) = c.stmt_node-node.ensures.here (λ e. omega (arith, e, c.if-kind-lt18.false)) in
     let inner_of : Inner c.args.program.now c.args.ends.now c.args.i c.stmt_node-node.result c.next-i2.result = record { laid = c.requires.0; here = here_of.0; node = here_of.2; next = c.next-i2.ensures } in
-    if-written (inner_of) c.requires.1 c.next-i3.ensures c.if-kind-eq21.true _ _ c.written-then.ensures c.written-other.ensures
+    if-written inner_of c.requires.1 c.next-i3.ensures c.if-kind-eq21.true _ _ c.written-then.ensures c.written-other.ensures
 
 pub written-p-requires : goal.written-p-requires
 written-p-requires t c =
@@ -70,7 +70,7 @@ written-p-requires t c =
     let n = inner_of in
     let pre = c.requires in
     let high : c.stmt_node-node.result.kind < 21 = omega (arith, c.if-kind-ge22.false, c.if-kind-eq21.false) in
-    (omega (arith, n.here), (pre.0, (two-basic n pre.1 (low_of) high).0))
+    (omega (arith, n.here), (pre.0, (two-basic n pre.1 low_of high).0))
 
 pub written-q-requires : goal.written-q-requires
 written-q-requires t c =
@@ -80,7 +80,7 @@ written-q-requires t c =
     let n = inner_of in
     let pre = c.requires in
     let high : c.stmt_node-node.result.kind < 21 = omega (arith, c.if-kind-ge22.false, c.if-kind-eq21.false) in
-    (omega (arith, n.here, second-later n), (pre.0, (two-basic n pre.1 (low_of) high).1))
+    (omega (arith, n.here, second-later n), (pre.0, (two-basic n pre.1 low_of high).1))
 
 pub returns : goal.returns
 returns t c =
@@ -89,4 +89,4 @@ returns t c =
     let low_of : 18 < c.stmt_node-node.result.kind = omega (arith, c.if-kind-lt18.false, c.if-kind-eq18.false) in
     let n = inner_of in
     let high : c.stmt_node-node.result.kind < 21 = omega (arith, c.if-kind-ge22.false, c.if-kind-eq21.false) in
-    two-written n c.requires.1 (low_of) high _ _ c.written-p.ensures c.written-q.ensures
+    two-written n c.requires.1 low_of high _ _ c.written-p.ensures c.written-q.ensures

@@ -12,24 +12,18 @@ loop-x-init c = (refl, refl, later-none _, refl, omega arith, omega arith)
 
 pub put-requires : goal.put-requires
 put-requires c =
-    let at-if1 = c in
-    let at-loop-test = at-if1 in
-    let at-loop = at-loop-test in
-    let loop = at-loop.loop-x in
-    let pre = at-loop.requires in
-    let a = among-bit _ _ at-loop-test.loop-x-test.true loop.invariant.2 in
-    omega (arith, pre.0, loop.invariant.1, loop.invariant.3, a, at-if1.if-rest-eq1.true)
+    let loop = c.loop-x in
+    let pre = c.requires in
+    let a = among-bit _ _ c.loop-x-test.true loop.invariant.2 in
+    omega (arith, pre.0, loop.invariant.1, loop.invariant.3, a, c.if-rest-eq1.true)
 
 pub loop-x-preserved-then-rest-eq1 : goal.loop-x-preserved-then-rest-eq1
 loop-x-preserved-then-rest-eq1 c =
-    let at-put = c in
-    let at-if1 = at-put in
-    let at-loop-test = at-if1 in
-    let loop = at-loop-test.loop-x in
+    let loop = c.loop-x in
     let inv = loop.invariant in
-    let test = at-loop-test.loop-x-test.true in
-    let one = at-if1.if-rest-eq1.true in
-    let put = at-put.put in
+    let test = c.loop-x-test.true in
+    let one = c.if-rest-eq1.true in
+    let put = c.put in
     let a = among-bit _ _ test inv.2 in (
       ap (write _ _) put.ensures ∙ sym (rows_in _ _ _ _ _ test inv.2 one) ∙ inv.0,
       omega (arith, inv.1, a, one),

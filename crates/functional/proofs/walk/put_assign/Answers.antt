@@ -14,11 +14,9 @@ put-requires c =
 
 pub overflow_add-result : goal.overflow_add-result
 overflow_add-result c =
-    let at-put-expr = c in
-    let pre = at-put-expr.requires in
-    omega (arith, assign-room pre.1, pre.1.small, (at-put-expr.put_expr-e.ensures _ (λ x h. refl)).cell)
+    let pre = c.requires in
+    omega (arith, assign-room pre.1, pre.1.small, (c.put_expr-e.ensures _ (λ x h. refl)).cell)
 
 pub returns : goal.returns
 returns c us same =
-    let at-put = c in
-    assign-done _ _ _ _ us c.replaced.result same (at-put.put_expr-e.ensures us same) at-put.put.ensures c.replaced.ensures
+    assign-done _ _ _ _ us c.replaced.result same (c.put_expr-e.ensures us same) c.put.ensures c.replaced.ensures

@@ -107,7 +107,7 @@ def wrap_pair(b,name,fields):
         if not k: break
         lets+=k.group(1); term=term[k.end():]
     term=term.strip()
-    if SIMPLE.match(term) or term.startswith(('record','elim','grind','search','omega')): return b
+    if SIMPLE.match(term) or term.startswith(('record','elim','grind','search','omega','rw ','simp ','subst ','λ')): return b
     return b[:m.start(2)]+lets+f"let clauses = {term} in record {{ "+"; ".join(f"{f} = clauses.{i}" for i,f in enumerate(fields))+" }"
 
 def tuple_record(b,name,fields):

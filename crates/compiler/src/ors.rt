@@ -11,7 +11,7 @@ use crate::walk::Word;
 
 // How wires are joined: the kind of the ors, the wire where there is none to join, which of its marks is an assignment's or a call's wire, and
 // the first variable whose wires are joined.
-#[derive(Drop)]
+#[derive(Clone, Copy)]
 pub struct Joint {
     pub kind: u8,
     pub none: u16,
@@ -20,7 +20,7 @@ pub struct Joint {
 }
 
 // The wire of each variable from a joint's first on, and the next cell.
-#[derive(Drop)]
+#[derive(Clone, Copy)]
 pub struct Ors {
     pub wires: [u16; 20],
     pub next: u16,

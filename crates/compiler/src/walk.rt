@@ -13,7 +13,7 @@ ghost use Rattle.compiler.specs.Walk.{word, place, ExprReady, ExprDone, Owned, S
 use model::{Cell, Node};
 
 // A wire, an expression's or the pulse that an if switches, and the next cell.
-#[derive(Drop)]
+#[derive(Clone, Copy)]
 pub struct Word {
     pub wire: u16,
     pub cell: u16,
@@ -21,7 +21,7 @@ pub struct Word {
 
 // Where the walk is: the wire that starts a statement or has just finished one, the next delay cell, the next walk cell, the next free entry of
 // the marks, and how many exits wait for the end of their loop.
-#[derive(Drop)]
+#[derive(Clone, Copy)]
 pub struct Place {
     pub wire: u16,
     pub delay: u16,
@@ -32,7 +32,7 @@ pub struct Place {
 
 // What the walk is to know of the netlist around it: the first memory, the length of a pulse, and the finish of each body that has been walked, for
 // the calls of it.
-#[derive(Drop)]
+#[derive(Clone, Copy)]
 pub struct Known {
     pub memory: u16,
     pub pulse: u8,
@@ -41,7 +41,7 @@ pub struct Known {
 
 // What an assignment's ors join: its variable, an array being one of 16 to 19, and its kind 41 cells, of the value and of an element's index.
 // With its first delay cell, which comes second, these are its four marks.
-#[derive(Drop)]
+#[derive(Clone, Copy)]
 pub struct Assigned {
     pub variable: u16,
     pub data: u16,

@@ -14,7 +14,7 @@ use crate::ors::Joint;
 use crate::walk::{Known, Place};
 
 // What the first walk and the clock ors leave: each variable's clock wire, the first memory, and how many assignments and calls there are.
-#[derive(Drop)]
+#[derive(Clone, Copy)]
 pub struct Clocks {
     pub wires: [u16; 20],
     pub memory: u16,
@@ -23,7 +23,7 @@ pub struct Clocks {
 
 // What the walk and the ors of words leave: each variable's data wire, each array's address wire, the number of cells, the finish, and where the ors
 // begin.
-#[derive(Drop)]
+#[derive(Clone, Copy)]
 pub struct Finished {
     pub wires: [u16; 20],
     pub addresses: [u16; 20],
@@ -33,7 +33,7 @@ pub struct Finished {
 }
 
 // How many cells a netlist has, its finish, and where the ors behind the walk begin.
-#[derive(Drop)]
+#[derive(Clone, Copy)]
 pub struct Netlist {
     pub count: u16,
     pub finish: u16,
@@ -41,7 +41,7 @@ pub struct Netlist {
 }
 
 // A root: its number, the node at which it begins, and its start where nobody calls it.
-#[derive(Drop)]
+#[derive(Clone, Copy)]
 pub struct Root {
     pub number: u16,
     pub node: usize,

@@ -1,11 +1,10 @@
 -- Bytes put into a buffer one after another: what is still to be put in, with some bytes less, and with none. Assumes nothing.
 use mathlib.Core.List.{List, [], ◌∷◌, ◌++◌, append_assoc}
-use mathlib.Core.Path.{◌≡◌, refl, sym, ◌∙◌, ap}
-use Prim.Native.Nat.{ℕ, suc, ◌+◌, ◌<◌, ◌≤◌}
+use mathlib.Core.Path.{◌≡◌, sym, ◌∙◌, ap}
+use Prim.Native.Nat.{ℕ, ◌+◌, ◌≤◌}
 use native.Mathlib.Omega.{arith}
-use native.Mathlib.Numerals.{add-one}
-use lib.ListN.{length, set, get_or, drop, drop_of_length-le, length-append}
-use lib.Seq.{sets, drop-cons}
+use lib.ListN.{length, set, length-append}
+use lib.Seq.{sets}
 use Rattle.model.specs.Calls.{overwrite}
 use Rattle.word.proofs.Puts.{overwrite-sets}
 use Rattle.laws.specs.Lists.Writes.{sets-append}

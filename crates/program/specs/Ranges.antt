@@ -6,7 +6,6 @@ use Rattle.std.proofs.Common.{sym, ◌∙◌, arith, length-append, take_at}
 use mathlib.Core.List.{List, ◌++◌}
 use Rattle.std.proofs.Math.ListN.{get_or}
 use Rattle.model.specs.declared.Node.{Node}
-use Rattle.model.specs.Refusals.{first}
 use Rattle.model.specs.Program.{node_at, node_count, nodes_from, nodes_at, grow, trees_at}
 use Rattle.laws.specs.Program.Trees.{nodes-split, tree_at, trees-step}
 use Rattle.program.specs.Ends.{EndAt}

@@ -1,6 +1,6 @@
 -- The roots of a program that is read: where each begins, what is refused in them, and which of the bodies do what.
 -- Assumes nothing.
-use Rattle.std.specs.Prelude.{◌≡◌, refl, Bool, true, false, ◌&&◌, List, [], ◌∷◌, ◌++◌, map, ℕ, zero, suc, ◌+◌, ◌-◌, ◌≤◌, ◌<◌, length, get_or}
+use Rattle.std.specs.Prelude.{◌≡◌, refl, Bool, true, false, ◌&&◌, List, [], ◌∷◌, ◌++◌, map, ℕ, zero, suc, ◌+◌, ◌≤◌, ◌<◌, length, get_or}
 use Rattle.std.proofs.Common.{sym, ◌∙◌, arith, add-zero, length-append, get_or-drop}
 use Rattle.std.proofs.Math.Path.{ap}
 use Rattle.model.specs.declared.Checked.{Checked}

@@ -4,13 +4,13 @@
 use mathlib.Core.Path.{◌≡◌, refl, sym, ◌∙◌, ap, ap₂}
 use mathlib.Core.Bool.{Bool, true, false, ◌||◌, or-true}
 use mathlib.Core.List.{List, ◌∷◌}
-use Prim.Native.Nat.{ℕ, zero, suc, ◌+◌, ◌-◌, ◌*◌, ◌≤◌, ◌<◌, max}
+use Prim.Native.Nat.{ℕ, zero, suc, ◌+◌, ◌-◌, ◌≤◌, ◌<◌, max}
 use native.Mathlib.Omega.{arith}
 use lib.Dec.{leb, eqb}
 use borrow.Author.Tests.{ne_eqb}
 use Rattle.model.specs.declared.Outcome.TheVariants.{Ended}
 use Rattle.model.specs.Word.{pick, is_zero, element_word}
-use Rattle.model.specs.Program.{Expr, const, var, compl, op, elem, Stmt, ok, tick, assign, assign_elem, seq, par, ite, while, repeat, loop, exit, array_var, reads, writes, touches}
+use Rattle.model.specs.Program.{Expr, const, var, compl, op, elem, Stmt, ok, tick, assign, assign_elem, seq, par, ite, while, repeat, loop, exit, array_var, reads, writes, touches, call}
 use Rattle.model.specs.Rules.{Costs, extended, postponed, Store, at_end, at_exit, Run, done, still, owner, eval, put, over, kept, after, wait, chain, both, caught, whiles, repeats, loops, run}
 use Rattle.model.specs.Calls.{listed, reference_answer}
 use Rattle.laws.specs.Program.Fit.{FormedExpr, Formed}
@@ -197,6 +197,7 @@ module _ (U : ℕ → Type 0) where
       let p = run-alike κ P w.1 c in
       λ k σ τ h. caught-alike _ _ (loops-alike (λ k₁ σ. run κ k₁ P σ) d p (suc k) k σ τ h)
   run-alike κ exit w c = λ k σ τ h. (refl, refl, h)
+  run-alike κ (call _ none) w c = elim none [ ]
 
 -- The first 272 words ------------------------------------------------------------------------------------------------------------------
 
@@ -229,6 +230,7 @@ untouched y l (while d e P) w = no_or (unread y l e w.1) (untouched y l P w.2)
 untouched y l (repeat d e P) w = no_or (unread y l e w.1) (untouched y l P w.2)
 untouched y l (loop d P) w = untouched y l P w.1
 untouched y l exit w = refl
+untouched y l (call _ none) w = elim none [ ]
 
 owner-past : (x : ℕ) → 272 ≤ x → 20 ≤ owner x
 owner-past x l = omega (arith, owner-later x (omega arith))

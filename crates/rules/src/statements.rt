@@ -12,7 +12,7 @@ use program::nodes;
 
 // What a kind of circuit adds to the delays: an assignment takes `write` more, and a loop's words are latched in `latch` instants, before each test of
 // a while and before each turn of a repeat.
-#[derive(Drop)]
+#[derive(Clone, Copy)]
 pub struct Costs {
     pub write: u8,
     pub latch: u8,

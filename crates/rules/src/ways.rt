@@ -6,7 +6,7 @@ ghost use Rattle.model.specs.Rules.{ended, still, after, wait, caught};
 ghost use Rattle.rules.specs.Ran.{store_of, run_of, Stands};
 
 // After `time` instants it ended, or came to an exit of a loop around it (`left`); or it is still going.
-#[derive(Drop)]
+#[derive(Clone, Copy)]
 pub struct Ran {
     pub ended: bool,
     pub left: bool,

@@ -145,9 +145,9 @@ module _ (text : List ℕ) (from p : ℕ) where
   words_left : words_from 0 p from (drop from text) ≡ words_from 0 p (after_blanks from text) (drop (after_blanks from text) text)
   words_left = words-blanks p from (drop from text) ∙ rw drop-drop refl
 
-  next_word : after_blanks from text < length text → Next text from p (word_here p (after_blanks from text) text)
+  next_word_lem : after_blanks from text < length text → Next text from p (word_here p (after_blanks from text) text)
   unfolding word_here
-  next_word h =
+  next_word_lem h =
       let place = after_blanks from text in
       let s = drop place text in
       let some : 0 < length s = simp length-drop (omega arith) in
@@ -179,7 +179,7 @@ module _ (text : List ℕ) (from p : ℕ) where
   unfolding next_word
   found-next =
       by_bool (ltb (after_blanks from text) (length text))
-      (λ z. rw z (next_word (ltb-true _ _ z)))
+      (λ z. rw z (next_word_lem (ltb-true _ _ z)))
       (λ z. rw z (next-none (ltb-false _ _ z)))
 
   pub next : {r : Scanned} → r ≡ next_word p from text → Next text from p r

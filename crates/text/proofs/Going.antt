@@ -1,6 +1,6 @@
 -- How the reader over all words of a text goes from a word to the next, breaks, or ends.
 -- Assumes nothing.
-use Rattle.std.proofs.Common.{◌≡◌, ℕ, suc, ◌+◌, ◌<◌, ◌≤◌, Bool, true, false, List, [], ◌∷◌, length, drop, sym, refl, ap, ◌∙◌, arith}
+use Rattle.std.proofs.Common.{◌≡◌, ℕ, suc, ◌≤◌, true, false, List, [], ◌∷◌, length, drop, sym, refl, ap, ◌∙◌, arith}
 use Rattle.model.specs.Text.{lexeme, words_from, limit_after}
 use Rattle.model.specs.Reader.{step, is_broken, complete, bad, reader_at_first, read_from}
 use Rattle.model.specs.TextCalls.{reading_of}

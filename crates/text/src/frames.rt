@@ -5,7 +5,7 @@ ghost use Rattle.model.specs.Reader.{frame, hold_of, reach_of, top_code, top_sta
 ghost use Rattle.text.specs.Shown.{frames_in, Pops};
 
 // Where what was read begins, and how high the stack is.
-#[derive(Drop)]
+#[derive(Clone, Copy)]
 pub struct Popped {
     pub start: u16,
     pub height: usize,

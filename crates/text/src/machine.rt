@@ -8,7 +8,7 @@ use model::Node;
 use model::texts::Mode;
 
 // mode: what is expected. start: the first node of what was just read. height: of the stack. cursor: where the next node goes. count: of nodes.
-#[derive(Drop)]
+#[derive(Clone, Copy)]
 pub struct Machine {
     pub mode: Mode,
     pub start: u16,

@@ -4,7 +4,7 @@ ghost use Rattle.text.specs.Shown.{lists};
 ghost use Rattle.text.specs.Parsing.{Parses, Going};
 
 // So many nodes, or the place where no continuation fits.
-#[derive(Drop)]
+#[derive(Clone, Copy)]
 pub enum Parsed {
     Nodes(usize),
     Broken(usize),

@@ -1,5 +1,5 @@
 -- `check_file` meets its contract. Assumes nothing.
-use Rattle.std.proofs.Common.{◌≡◌, Bool, ◌||◌, sym, ◌∙◌, ap₂, arith, rules}
+use Rattle.std.proofs.Common.{◌≡◌, Bool, ◌||◌, sym, ◌∙◌, ap₂, arith}
 use Rattle.laws.specs.NetlistFile.Passed.{pulse-right}
 use Rattle.model.specs.NetlistFile.{file_length_wrong}
 use Rattle.netlist.proofs.FileChecks.{length-refused, sums-refused, count-refused, headers-refused, cells-decide, neither, whole-file, counted, counted-room}

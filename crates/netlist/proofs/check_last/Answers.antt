@@ -1,5 +1,5 @@
 -- `check_last` meets its contract. Assumes nothing.
-use Rattle.std.proofs.Common.{◌≡◌, ℕ, ◌*◌, true, ◌||◌, ltb, List, length, refl, ap, ◌∙◌, arith, rules, ltb-false, le-ltb}
+use Rattle.std.proofs.Common.{◌≡◌, ℕ, ◌*◌, true, ◌||◌, ltb, List, length, refl, ap, ◌∙◌, arith, ltb-false, le-ltb}
 use Rattle.model.specs.declared.Checked.TheVariants.{Accepted}
 use Rattle.model.specs.NetlistFile.{cell_limit, blocks_for, count_of, cells_at, in_file, cells_of, file_check, last_check}
 use Rattle.laws.specs.Refusals.Laws.{not-both}

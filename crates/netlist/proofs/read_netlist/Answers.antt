@@ -1,5 +1,5 @@
 -- `read_netlist` meets its contract. Assumes nothing.
-use Rattle.std.proofs.Common.{◌≡◌, ◌+◌, sym, ◌∙◌, arith, rules}
+use Rattle.std.proofs.Common.{◌≡◌, ◌+◌, sym, ◌∙◌, arith}
 use Rattle.netlist.specs.declared.cells.Layout.TheVariants.{InFile}
 use Rattle.netlist.specs.Offsets.{Room}
 use Rattle.netlist.proofs.FileChecks.{accepted-whole, accepted-room}

@@ -1,5 +1,5 @@
 -- `write_file` meets its contract. Assumes nothing.
-use Rattle.std.proofs.Common.{arith, rules}
+use Rattle.std.proofs.Common.{arith}
 use Rattle.netlist.proofs.Calls.{file-short, file-done}
 use Rattle.netlist.proofs.write_file.Goals as goal
 

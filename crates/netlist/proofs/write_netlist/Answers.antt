@@ -1,5 +1,5 @@
 -- `write_netlist` meets its contract. Assumes nothing.
-use Rattle.std.proofs.Common.{sym, ◌∙◌, arith, rules}
+use Rattle.std.proofs.Common.{sym, ◌∙◌, arith}
 use Rattle.netlist.proofs.Calls.{list-room, pulse-refused, count-refused, cells-refused, write-file}
 use Rattle.netlist.proofs.write_netlist.Goals as goal
 

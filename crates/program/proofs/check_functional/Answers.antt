@@ -1,5 +1,4 @@
 -- The check is what a scan tells.
-use borrow.Author.Rules.{rules}
 use Rattle.program.proofs.check_functional.Goals as goal
 
 pub returns : goal.returns

@@ -3,7 +3,6 @@ use mathlib.Core.Path.{◌∙◌}
 use Rattle.laws.specs.Refusals.Laws.{first_one}
 use Rattle.program.specs.Roots.{clash_fault}
 use Rattle.model.specs.Program.{program_of}
-use borrow.Author.Rules.{rules}
 use Rattle.program.proofs.last_check.Goals as goal
 
 pub first_slow-slow-requires : goal.first_slow-slow-requires

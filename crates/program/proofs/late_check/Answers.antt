@@ -1,7 +1,6 @@
 -- Refusals 22 and 24, and then the others, in their order.
 use Rattle.program.specs.Roots.{root_fault}
 use Rattle.model.specs.Program.{program_of}
-use borrow.Author.Rules.{rules}
 use Rattle.program.proofs.late_check.Goals as goal
 
 pub returns-in-Refused : goal.returns-in-Refused

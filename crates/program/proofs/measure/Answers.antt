@@ -1,12 +1,12 @@
 -- The arrays are right from node i on; the refusals after 6 read them whole.
-use mathlib.Core.Path.{◌≡◌, refl, ◌∙◌, ap}
-use Prim.Native.Nat.{ℕ, ◌+◌, ◌-◌, ◌≤◌, ◌<◌}
+use mathlib.Core.Path.{refl, ◌∙◌, ap}
+use Prim.Native.Nat.{◌+◌, ◌-◌, ◌<◌}
 use native.Mathlib.Omega.{arith}
-use lib.ListN.{length, length-set}
+use lib.ListN.{length-set}
 use Rattle.model.specs.declared.kinds.Row.{Row}
 use Rattle.model.specs.Program.{node_count, time_in}
 use Rattle.program.specs.Ends.{skips}
-use Rattle.program.specs.Shape.{Shaped, shaped-more}
+use Rattle.program.specs.Shape.{shaped-more}
 use Rattle.program.proofs.measure.Goals as goal
 
 pub loop-i-init : goal.loop-i-init

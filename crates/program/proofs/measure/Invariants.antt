@@ -1,12 +1,9 @@
 -- The arrays are right from node i on; the refusals after 6 read them whole.
-use mathlib.Core.Path.{◌≡◌, refl, ◌∙◌, ap}
-use Prim.Native.Nat.{ℕ, ◌+◌, ◌-◌, ◌≤◌, ◌<◌}
-use native.Mathlib.Omega.{arith}
-use lib.ListN.{length, length-set}
-use Rattle.model.specs.declared.kinds.Row.{Row}
+use mathlib.Core.Path.{◌≡◌}
+use Prim.Native.Nat.{ℕ, ◌≤◌, ◌<◌}
+use lib.ListN.{length}
 use Rattle.model.specs.Program.{node_count, time_in}
-use Rattle.program.specs.Ends.{skips}
-use Rattle.program.specs.Shape.{Shaped, shaped-more}
+use Rattle.program.specs.Shape.{Shaped}
 use Rattle.program.proofs.measure.Given as goal
 
 abbrev pub invariant-loop-i : goal.invariant-loop-i

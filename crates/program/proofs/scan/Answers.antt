@@ -2,7 +2,6 @@
 use mathlib.Core.Path.{sym, ◌∙◌}
 use Rattle.laws.specs.Refusals.Laws.{not-refused}
 use Rattle.program.proofs.TimeTables.{given-refuses, given-accepts}
-use borrow.Author.Rules.{rules}
 use Rattle.program.proofs.scan.Goals as goal
 
 pub returns-in-Refused : goal.returns-in-Refused

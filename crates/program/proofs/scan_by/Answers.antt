@@ -4,7 +4,6 @@ use Rattle.model.specs.Program.{time_in}
 use Rattle.model.specs.ProgramChecks.{program_checks}
 use Rattle.laws.specs.Refusals.Laws.{not-refused, first-take, first-drop}
 use Rattle.laws.specs.Program.Passed.{readable}
-use borrow.Author.Rules.{rules}
 use Rattle.program.proofs.scan_by.Goals as goal
 
 pub measure-requires : goal.measure-requires

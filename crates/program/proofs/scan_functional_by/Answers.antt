@@ -11,7 +11,6 @@ use Rattle.model.specs.Program.{node_count, time_in}
 use Rattle.model.specs.ProgramChecks.{program_checks, added_fault, functional_checks}
 use Rattle.laws.specs.Refusals.Laws.{not-refused, first_one, first-append, refused-append}
 use Rattle.laws.specs.Program.Passed.{readable}
-use borrow.Author.Rules.{rules}
 use Rattle.program.proofs.scan_functional_by.Goals as goal
 
 -- the checks before it

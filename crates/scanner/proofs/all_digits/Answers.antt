@@ -1,11 +1,5 @@
 -- `words::all_digits` meets its contract. The invariant: the answer from byte 0 is the answer from byte i. Assumes nothing.
-use mathlib.Core.Path.{◌≡◌, refl, sym, ◌∙◌}
-use Prim.Native.Nat.{◌-◌}
-use native.Mathlib.Omega.{arith}
-use lib.ListN.{length, drop}
-use borrow.Author.Rules.{rules}
-use borrow.Author.Tests.{not-true, not-false}
-use Rattle.model.specs.Text.{all_digits}
+use mathlib.Core.Path.{sym, ◌∙◌}
 use Rattle.scanner.proofs.Numbers.{digits_more, digits-stop, digits-end}
 use Rattle.scanner.proofs.all_digits.Goals as goal
 

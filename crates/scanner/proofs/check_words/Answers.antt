@@ -1,12 +1,8 @@
 -- `words::check_words` meets its contract. The invariant: the first word outside the language is that from place `at` on.
 -- Assumes nothing.
-use mathlib.Core.Path.{◌≡◌, refl, sym, ◌∙◌}
-use Prim.Native.Nat.{◌-◌}
+use mathlib.Core.Path.{sym, ◌∙◌}
 use native.Mathlib.Omega.{arith}
-use lib.ListN.{length, drop}
-use borrow.Author.Rules.{rules}
 use borrow.Author.Tests.{not-true, not-false}
-use Rattle.model.specs.Text.{words_of, words_from, outside}
 use Rattle.scanner.specs.ScanningLaws.{next}
 use Rattle.scanner.proofs.Words.{outside-end, outside-none, outside-here, outside-next}
 use Rattle.scanner.proofs.check_words.Goals as goal
@@ -17,7 +13,7 @@ returns-then-not-next c =
     let at = found in
     let text = at.args.text.now in
     let n = next text at.loop-at.at at.loop-at.previous found.next_word-next.ensures in
-    sym (at.loop-at.invariant ∙ outside-none text at.loop-at.at at.loop-at.previous n c.if-not-next.true)
+    sym (at.loop-at.invariant ∙ outside-none text at.loop-at.at at.loop-at.previous n (not-true _ c.if-not-next.true))
 
 pub returns-then-next-eq0 : goal.returns-then-next-eq0
 returns-then-next-eq0 c =
@@ -34,7 +30,7 @@ loop-at-smaller c =
     let found = test in
     let at = found in
     let n = next at.args.text.now at.loop-at.at at.loop-at.previous found.next_word-next.ensures in
-    let some = n.nonempty (not-false found.next_word-next.result.found test.if-not-next.false) in
+    let some = n.nonempty (not-false _ test.if-not-next.false) in
     omega (arith, n.after, some, found.loop-at-test.true)
 
 pub loop-at-preserved : goal.loop-at-preserved

@@ -1,14 +1,9 @@
 -- `words::check_words` meets its contract. The invariant: the first word outside the language is that from place `at` on.
 -- Assumes nothing.
-use mathlib.Core.Path.{◌≡◌, refl, sym, ◌∙◌}
+use mathlib.Core.Path.{◌≡◌}
 use Prim.Native.Nat.{◌-◌}
-use native.Mathlib.Omega.{arith}
 use lib.ListN.{length, drop}
-use borrow.Author.Rules.{rules}
-use borrow.Author.Tests.{not-true, not-false}
 use Rattle.model.specs.Text.{words_of, words_from, outside}
-use Rattle.scanner.specs.ScanningLaws.{next}
-use Rattle.scanner.proofs.Words.{outside-end, outside-none, outside-here, outside-next}
 use Rattle.scanner.proofs.check_words.Given as goal
 
 abbrev pub invariant-loop-at : goal.invariant-loop-at

@@ -1,6 +1,5 @@
 -- `words::is_name` meets its contract: the first byte, and the rest. Assumes nothing.
 use mathlib.Core.Path.{sym, ◌∙◌}
-use borrow.Author.Rules.{rules}
 use Rattle.scanner.proofs.Numbers.{name-first, after_first, no_name, name-number}
 use Rattle.scanner.proofs.is_name.Goals as goal
 

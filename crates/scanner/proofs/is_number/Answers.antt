@@ -1,7 +1,5 @@
 -- `words::is_number` meets its contract, test by test. Assumes nothing.
 use mathlib.Core.Path.{sym, ◌∙◌}
-use borrow.Author.Rules.{rules}
-use borrow.Author.Tests.{not-true, not-false}
 use Rattle.scanner.proofs.Numbers.{size-wrong, digits-wrong, first-wrong, size-right, number-value}
 use Rattle.scanner.proofs.is_number.Goals as goal
 
@@ -32,7 +30,7 @@ value-requires c =
     let all_digits = c.all_digits in
     let if2 = c.if-not-all_digits in
     let if1 = c.if-n in
-    ((size-right start.args.limit start.args.w.now if1.false).1, sym all_digits.ensures ∙ not-false all_digits.result if2.false)
+    ((size-right start.args.limit start.args.w.now if1.false).1, sym all_digits.ensures ∙ if2.false)
 
 pub returns : goal.returns
 returns c =
@@ -41,4 +39,4 @@ returns c =
     let if2 = c.if-not-all_digits in
     let if1 = c.if-n in
     rw c.value.ensures
-    (number-value args.limit args.w.now if1.false (sym all_digits.ensures ∙ not-false all_digits.result if2.false) c.if-n-w.false)
+    (number-value args.limit args.w.now if1.false (sym all_digits.ensures ∙ if2.false) c.if-n-w.false)

@@ -1,7 +1,6 @@
 -- `words::next_word` meets its contract. Assumes nothing.
 use borrow.Author.Tests.{lt-ltb, le-ltb}
 use Rattle.scanner.specs.Scanning.{next_word}
-use borrow.Author.Rules.{rules}
 use Rattle.scanner.proofs.next_word.Goals as goal
 
 pub returns-then-place-text : goal.returns-then-place-text

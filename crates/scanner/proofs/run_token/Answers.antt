@@ -1,7 +1,6 @@
 -- `words::run_token` meets its contract: a number, a name, or a word. Assumes nothing.
 use mathlib.Core.Path.{◌≡◌, sym, ◌∙◌, ap}
 use native.Mathlib.Omega.{arith}
-use borrow.Author.Rules.{rules}
 use Rattle.model.specs.Text.{value_from, is_number, limit_after}
 use Rattle.scanner.proofs.Numbers.{number-known, name-known, after_first}
 use Rattle.scanner.proofs.Runs.{limit-small, token-number, token-name, token-word}

@@ -1,9 +1,6 @@
 -- `words::same` meets its contract. The invariant: the answer from byte 0 is the answer from byte i. Assumes nothing.
-use mathlib.Core.Path.{◌≡◌, refl, sym, ◌∙◌}
-use Prim.Native.Nat.{◌-◌}
+use mathlib.Core.Path.{sym, ◌∙◌}
 use native.Mathlib.Omega.{arith}
-use lib.ListN.{length, drop}
-use Rattle.model.specs.Text.{same}
 use Rattle.scanner.proofs.Runs.{same-lengths, same_more, same_stop, same_end}
 use Rattle.scanner.proofs.same.Goals as goal
 

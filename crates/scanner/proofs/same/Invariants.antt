@@ -1,10 +1,8 @@
 -- `words::same` meets its contract. The invariant: the answer from byte 0 is the answer from byte i. Assumes nothing.
-use mathlib.Core.Path.{◌≡◌, refl, sym, ◌∙◌}
+use mathlib.Core.Path.{◌≡◌}
 use Prim.Native.Nat.{◌-◌}
-use native.Mathlib.Omega.{arith}
 use lib.ListN.{length, drop}
 use Rattle.model.specs.Text.{same}
-use Rattle.scanner.proofs.Runs.{same-lengths, same_more, same_stop, same_end}
 use Rattle.scanner.proofs.same.Given as goal
 
 abbrev pub invariant-loop-i : goal.invariant-loop-i

@@ -1,13 +1,8 @@
 -- `words::skip_blanks` meets its contract. The invariant: the place after the blanks from i on is that from j on. Assumes nothing.
-use mathlib.Core.Path.{◌≡◌, refl, sym, ◌∙◌}
+use mathlib.Core.Path.{◌≡◌}
 use Prim.Native.Nat.{◌-◌}
-use native.Mathlib.Omega.{arith}
 use lib.ListN.{length}
-use borrow.Author.Rules.{rules}
-use borrow.Author.Tests.{not-true, not-false}
-use Rattle.model.specs.Text.{blank}
 use Rattle.scanner.specs.Scanning.{after_blanks}
-use Rattle.scanner.specs.ScanningLaws.{front-more, front-stop, front-end}
 use Rattle.scanner.proofs.skip_blanks.Given as goal
 
 abbrev pub invariant-loop-j : goal.invariant-loop-j

@@ -1,10 +1,9 @@
 -- `words::value` meets its contract. The invariant: going on from v at byte i comes out as from 0 at the start. No value on the way
 -- is above the last one, which has five digits. Assumes nothing.
-use mathlib.Core.Path.{◌≡◌, refl, sym, ◌∙◌}
+use mathlib.Core.Path.{sym, ◌∙◌}
 use Prim.Native.Nat.{◌-◌, ◌+◌, ◌*◌}
 use native.Mathlib.Omega.{arith}
-use lib.ListN.{length, get_or, drop}
-use Rattle.model.specs.Text.{value_from}
+use lib.ListN.{get_or, drop}
 use Rattle.scanner.proofs.Numbers.{digit-range, digit_at, value-more, value-end, value_grows, value-small}
 use Rattle.scanner.proofs.value.Goals as goal
 

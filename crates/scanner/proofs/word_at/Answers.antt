@@ -2,7 +2,6 @@
 use mathlib.Core.Path.{refl}
 use native.Mathlib.Omega.{arith}
 use Rattle.scanner.proofs.Words.{run-within, run-here, two_here, one-here}
-use borrow.Author.Rules.{rules}
 use Rattle.scanner.proofs.word_at.Goals as goal
 
 pub slice_bounds-run_token-end : goal.slice_bounds-run_token-end

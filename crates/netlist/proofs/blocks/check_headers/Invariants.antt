@@ -1,9 +1,7 @@
 -- `blocks::check_headers` meets its contract. The invariant: the answer from block 0 is the answer from block b. Assumes nothing.
-use Rattle.std.proofs.Common.{◌-◌, sym, ◌∙◌, arith}
-use borrow.Author.Tests.{not-true, not-false}
+use Rattle.std.proofs.Common.{◌-◌}
 use Rattle.model.specs.NetlistFile.{header_fault}
-use Rattle.netlist.proofs.BlockChecks.{header-wrong, header-right}
-use Rattle.laws.specs.Refusals.Search.{Searched, searched-none, fault-here, fault-next, faults-end}
+use Rattle.laws.specs.Refusals.Search.{Searched}
 use Rattle.netlist.proofs.blocks.check_headers.Given as goal
 
 abbrev pub invariant-loop-b : goal.invariant-loop-b

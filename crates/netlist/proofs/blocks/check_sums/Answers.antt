@@ -1,8 +1,8 @@
 -- `blocks::check_sums` meets its contract. The invariant: the answer from block 0 is the answer from block b. Assumes nothing.
-use Rattle.std.proofs.Common.{◌-◌, arith}
+use Rattle.std.proofs.Common.{arith}
 use Rattle.model.specs.NetlistFile.{sum_fault}
 use Rattle.netlist.proofs.BlockChecks.{sum-wrong, sum-right}
-use Rattle.laws.specs.Refusals.Search.{Searched, searched-none, fault-here, fault-next, faults-end}
+use Rattle.laws.specs.Refusals.Search.{searched-none, fault-here, fault-next, faults-end}
 use Rattle.netlist.proofs.blocks.check_sums.Goals as goal
 
 pub loop-b-init : goal.loop-b-init

@@ -1,6 +1,5 @@
 -- `blocks::clear` meets its contract. The invariant: clearing the rest comes out as at the start. Assumes nothing.
-use Rattle.std.proofs.Common.{◌≡◌, ◌-◌, length, replicate, sym, refl, ◌∙◌, arith, length-set}
-use lib.Seq.{sets}
+use Rattle.std.proofs.Common.{sym, refl, ◌∙◌, length-set}
 use Rattle.netlist.proofs.Putting.{clear-more, clear-done}
 use Rattle.netlist.proofs.blocks.clear.Goals as goal
 

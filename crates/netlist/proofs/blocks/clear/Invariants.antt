@@ -1,7 +1,6 @@
 -- `blocks::clear` meets its contract. The invariant: clearing the rest comes out as at the start. Assumes nothing.
-use Rattle.std.proofs.Common.{◌≡◌, ◌-◌, length, replicate, sym, refl, ◌∙◌, arith, length-set}
+use Rattle.std.proofs.Common.{◌≡◌, ◌-◌, length, replicate}
 use lib.Seq.{sets}
-use Rattle.netlist.proofs.Putting.{clear-more, clear-done}
 use Rattle.netlist.proofs.blocks.clear.Given as goal
 
 abbrev pub invariant-loop-j : goal.invariant-loop-j

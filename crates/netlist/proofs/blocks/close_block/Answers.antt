@@ -1,5 +1,5 @@
 -- `blocks::close_block` meets its contract. Assumes nothing.
-use Rattle.std.proofs.Common.{◌≡◌, ◌+◌, ◌-◌, ◌*◌, arith, rules}
+use Rattle.std.proofs.Common.{◌≡◌, ◌+◌, ◌-◌, ◌*◌, arith}
 use Rattle.netlist.proofs.blocks.close_block.Goals as goal
 
 pub returns : goal.returns

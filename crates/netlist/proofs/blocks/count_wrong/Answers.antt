@@ -1,5 +1,5 @@
 -- `blocks::count_wrong` meets its contract. Assumes nothing.
-use Rattle.std.proofs.Common.{refl, rules}
+use Rattle.std.proofs.Common.{refl}
 use Rattle.model.specs.NetlistFile.{count_wrong}
 use Rattle.netlist.proofs.blocks.count_wrong.Goals as goal
 

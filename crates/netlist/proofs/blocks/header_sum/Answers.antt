@@ -1,5 +1,5 @@
 -- `blocks::header_sum` meets its contract. Assumes nothing.
-use Rattle.std.proofs.Common.{arith, rules}
+use Rattle.std.proofs.Common.{arith}
 use Rattle.model.specs.NetlistFile.{sum_after, running_sum}
 use Rattle.netlist.proofs.blocks.header_sum.Goals as goal
 

@@ -1,5 +1,4 @@
 -- `blocks::is_headed` meets its contract. Assumes nothing.
-use Rattle.std.proofs.Common.{rules}
 use Rattle.netlist.proofs.BlockChecks.{headed-is}
 use Rattle.netlist.proofs.blocks.is_headed.Goals as goal
 

@@ -1,10 +1,7 @@
 -- `blocks::put_file` meets its contract. The invariant: the first k cells are put in. Assumes nothing.
-use Rattle.std.proofs.Common.{◌≡◌, ℕ, ◌-◌, ◌≤◌, length, sym, refl, ap, ◌∙◌, arith}
-use lib.Seq.{sets}
-use Rattle.model.specs.NetlistFile.{cells_at, in_list, blocks, blocks_for, file_of}
+use Rattle.std.proofs.Common.{◌≡◌, ◌-◌, ◌≤◌, length}
+use Rattle.model.specs.NetlistFile.{cells_at, in_list}
 use Rattle.netlist.specs.Blocks.{Filled}
-use Rattle.netlist.proofs.Bytes.{cells-length, cell-of}
-use Rattle.netlist.proofs.Putting.{filled_none}
 use Rattle.netlist.proofs.blocks.put_file.Given as goal
 
 abbrev pub invariant-loop-k : goal.invariant-loop-k

@@ -1,5 +1,5 @@
 -- `blocks::put_header` meets its contract. Assumes nothing.
-use Rattle.std.proofs.Common.{◌≡◌, arith, rules}
+use Rattle.std.proofs.Common.{◌≡◌, arith}
 use Rattle.model.specs.NetlistFile.{check_for}
 use Rattle.netlist.proofs.Putting.{head-put, check-word}
 use Rattle.netlist.proofs.blocks.put_header.Goals as goal

@@ -1,5 +1,5 @@
 -- `blocks::put_next` meets its contract. Assumes nothing.
-use Rattle.std.proofs.Common.{sym, refl, arith, rules}
+use Rattle.std.proofs.Common.{sym, refl, arith}
 use Rattle.netlist.proofs.Putting.{put-inside, put_last}
 use Rattle.netlist.proofs.blocks.put_next.Goals as goal
 

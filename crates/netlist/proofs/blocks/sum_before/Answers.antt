@@ -1,5 +1,5 @@
 -- `blocks::sum_before` meets its contract. Assumes nothing.
-use Rattle.std.proofs.Common.{refl, rules, eq-eqb, ne_eqb}
+use Rattle.std.proofs.Common.{refl, eq-eqb, ne_eqb}
 use Rattle.netlist.proofs.blocks.sum_before.Goals as goal
 
 pub returns-then-j-eq0 : goal.returns-then-j-eq0

@@ -1,7 +1,6 @@
 -- `blocks::zero_from` meets its contract. The invariant: the answer from byte j is the answer from byte k. Assumes nothing.
-use Rattle.std.proofs.Common.{◌≡◌, ◌-◌, drop, sym, refl, ◌∙◌, arith}
+use Rattle.std.proofs.Common.{◌≡◌, ◌-◌, drop}
 use Rattle.model.specs.NetlistFile.{all_zero, block_at}
-use Rattle.netlist.proofs.BlockChecks.{zero-stop, zero-next, zero-end}
 use Rattle.netlist.proofs.blocks.zero_from.Given as goal
 
 abbrev pub invariant-loop-k : goal.invariant-loop-k

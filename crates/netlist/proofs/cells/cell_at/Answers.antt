@@ -1,5 +1,4 @@
 -- `cells::cell_at` meets its contract. Assumes nothing.
-use Rattle.std.proofs.Common.{rules}
 use Rattle.netlist.proofs.cells.cell_at.Goals as goal
 
 pub returns : goal.returns

@@ -1,5 +1,4 @@
 -- `cells::cell_from` meets its contract. Assumes nothing.
-use Rattle.std.proofs.Common.{rules}
 use Rattle.model.specs.NetlistFile.{cell_from}
 use Rattle.netlist.proofs.cells.cell_from.Goals as goal
 

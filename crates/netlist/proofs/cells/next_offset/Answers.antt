@@ -1,5 +1,5 @@
 -- `cells::next_offset` meets its contract. Assumes nothing.
-use Rattle.std.proofs.Common.{arith, rules}
+use Rattle.std.proofs.Common.{arith}
 use Rattle.netlist.proofs.Following.{after_block, after-cell}
 use Rattle.netlist.proofs.cells.next_offset.Goals as goal
 

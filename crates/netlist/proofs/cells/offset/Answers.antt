@@ -1,5 +1,5 @@
 -- `cells::offset` meets its contract. Assumes nothing.
-use Rattle.std.proofs.Common.{refl, rules}
+use Rattle.std.proofs.Common.{refl}
 use Rattle.netlist.proofs.cells.offset.Goals as goal
 
 pub returns-in-InList : goal.returns-in-InList

@@ -1,5 +1,5 @@
 -- `cells::put_cell` meets its contract. Assumes nothing.
-use Rattle.std.proofs.Common.{arith, length-set, rules}
+use Rattle.std.proofs.Common.{arith, length-set}
 use Rattle.netlist.proofs.Bytes.{cell-put, cell-added}
 use Rattle.netlist.proofs.cells.put_cell.Goals as goal
 

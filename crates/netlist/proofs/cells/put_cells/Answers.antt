@@ -1,7 +1,5 @@
 -- `cells::put_cells` meets its contract. The invariant: putting the rest in comes out as at the start. Assumes nothing.
-use Rattle.std.proofs.Common.{◌≡◌, ◌+◌, ◌*◌, ◌<◌, length, sym, refl, ◌∙◌, arith}
-use lib.Seq.{sets}
-use Rattle.model.specs.NetlistFile.{cell_bytes, cells_at}
+use Rattle.std.proofs.Common.{◌<◌, sym, refl, ◌∙◌, arith}
 use Rattle.netlist.specs.Offsets.{offset}
 use Rattle.netlist.proofs.Bytes.{cell-fits, put-more, put-done}
 use Rattle.netlist.proofs.cells.put_cells.Goals as goal

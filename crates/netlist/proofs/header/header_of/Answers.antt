@@ -1,5 +1,5 @@
 -- `header_of` meets its contract. Assumes nothing.
-use Rattle.std.proofs.Common.{arith, rules}
+use Rattle.std.proofs.Common.{arith}
 use Rattle.netlist.proofs.FileChecks.{accepted-whole, accepted-pulse}
 use Rattle.netlist.proofs.header.header_of.Goals as goal
 

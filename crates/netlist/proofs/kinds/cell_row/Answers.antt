@@ -1,5 +1,5 @@
 -- A kind's row: each arm is a line of the model's table, and a kind of no arm is unknown. Assumes nothing.
-use Rattle.std.proofs.Common.{◌≡◌, ℕ, ◌<◌, ◌⊎◌, refl, inl, inr, ⊎_elim, arith, rules}
+use Rattle.std.proofs.Common.{◌≡◌, ℕ, ◌<◌, ◌⊎◌, refl, inl, inr, arith}
 use Rattle.model.specs.Circuit.{k_unknown, cell_table, shape, cell_row}
 use Rattle.laws.specs.Circuit.Shapes.{operator-shape, outside, apart}
 use Rattle.netlist.proofs.kinds.cell_row.Goals as goal
@@ -102,10 +102,10 @@ returns-in-4-to-9 c =
 pub returns-in_default : goal.returns-in_default
 unfolding cell_table
 returns-in_default c =
-    let rest = c.in_default.in_default-own.rest in
-    let none = unlisted _ (elim c.in_default.branch [
-      in_default-via-then-kind-lt3 w ↦ inl (omega arith) |
-      in_default-via-else-kind-lt3+else-kind-lt10 w ↦ inr (omega arith)
+    let none : shape c.args.kind ≡ k_unknown = unlisted _
+    (elim c.in_default.branch [
+      | in_default-via-then-kind-lt3 w ↦ inl (omega arith)
+      | in_default-via-else-kind-lt3+else-kind-lt10 w ↦ inr (omega arith)
     ])
-    rest.0.0.0.0.0.0.0.0.0.0.0.0.0.0.0.1 rest.0.0.0.0.0.0.0.0.0.0.0.0.0.0.1 rest.0.0.0.0.0.0.0.0.0.0.0.0.0.1 rest.0.0.0.0.0.0.0.0.0.0.0.0.1 rest.0.0.0.0.0.0.0.0.0.0.0.1 rest.0.0.0.0.0.0.0.0.0.0.1 rest.0.0.0.0.0.0.0.0.0.1 rest.0.0.0.0.0.0.0.0.1 rest.0.0.0.0.0.0.0.1 rest.0.0.0.0.0.0.1 rest.0.0.0.0.0.1 rest.0.0.0.0.1 rest.0.0.0.1 rest.0.0.1 rest.0.1 rest.1 in
+    (omega arith) (omega arith) (omega arith) (omega arith) (omega arith) (omega arith) (omega arith) (omega arith) (omega arith) (omega arith) (omega arith) (omega arith) (omega arith) (omega arith) (omega arith) (omega arith) in
     rw (c.row-in_default.ensures, cell_row, none) refl

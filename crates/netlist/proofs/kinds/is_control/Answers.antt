@@ -1,5 +1,5 @@
 -- `kinds::is_control` meets its contract. Assumes nothing.
-use Rattle.std.proofs.Common.{ap, rules}
+use Rattle.std.proofs.Common.{ap}
 use Rattle.model.specs.declared.kinds.CellRow.{CellRow}
 use Rattle.model.specs.Circuit.{control}
 use Rattle.netlist.proofs.kinds.is_control.Goals as goal

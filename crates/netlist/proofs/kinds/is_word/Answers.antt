@@ -1,5 +1,5 @@
 -- `kinds::is_word` meets its contract. Assumes nothing.
-use Rattle.std.proofs.Common.{refl, rules}
+use Rattle.std.proofs.Common.{refl}
 use Rattle.netlist.proofs.kinds.is_word.Goals as goal
 
 pub returns : goal.returns

@@ -1,5 +1,5 @@
 -- `kinds::names` meets its contract. Assumes nothing.
-use Rattle.std.proofs.Common.{refl, rules}
+use Rattle.std.proofs.Common.{refl}
 use Rattle.model.specs.Circuit.{names}
 use Rattle.netlist.proofs.kinds.names.Goals as goal
 

@@ -1,5 +1,5 @@
 -- `moves::rewired` meets its contract: each input by itself. Assumes nothing.
-use Rattle.std.proofs.Common.{◌≡◌, ℕ, Bool, true, false, refl, ap₂, rules}
+use Rattle.std.proofs.Common.{◌≡◌, ℕ, Bool, true, false, refl, ap₂}
 use Rattle.model.specs.declared.Cell.{Cell}
 use Rattle.model.specs.Word.{pick}
 use Rattle.model.specs.Circuit.{cell, cell_row, names}

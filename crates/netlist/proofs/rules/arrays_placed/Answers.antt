@@ -1,5 +1,5 @@
 -- `rules::arrays_placed` meets its contract: before the arrays' cells, behind them, and among them a 42 or a 43. Assumes nothing.
-use Rattle.std.proofs.Common.{◌+◌, refl, arith, rules, le-ltb, lt-ltb, ne_eqb, le-leb}
+use Rattle.std.proofs.Common.{◌+◌, refl, arith, le-ltb, lt-ltb, ne_eqb, le-leb}
 use borrow.Author.Tests.{lt-leb}
 use Rattle.model.specs.NetlistFile.{array_placed}
 use Rattle.netlist.proofs.rules.arrays_placed.Goals as goal

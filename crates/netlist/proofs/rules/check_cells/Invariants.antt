@@ -1,9 +1,8 @@
 -- `rules::check_cells` meets its contract. The invariant: what is found of the first k cells. Assumes nothing.
-use Rattle.std.proofs.Common.{◌≡◌, ◌-◌, ◌≤◌, length, sym, ◌∙◌, arith, rules}
+use Rattle.std.proofs.Common.{◌-◌, ◌≤◌}
 use Rattle.model.specs.NetlistFile.{cells_at}
 use Rattle.netlist.specs.Offsets.{offset}
 use Rattle.netlist.specs.Scans.{Scanned}
-use Rattle.netlist.proofs.Bytes.{cells-length, cell-fits, cell-of}
 use Rattle.netlist.proofs.rules.check_cells.Given as goal
 
 abbrev pub invariant-loop-k : goal.invariant-loop-k

@@ -1,8 +1,7 @@
 -- `rules::check_last` meets its contract. The invariant: the answer from cell 0 is the answer from cell k, which is one of the last sixteen. Assumes nothing.
-use Rattle.std.proofs.Common.{◌≡◌, ◌+◌, ◌-◌, ◌≤◌, length, sym, ◌∙◌, arith, rules}
-use borrow.Author.Tests.{not-true, not-false}
-use Rattle.model.specs.NetlistFile.{cells_at, last_fault, last_check}
-use Rattle.laws.specs.Refusals.Search.{Searched, fault-here, fault-next, faults-end}
+use Rattle.std.proofs.Common.{sym, ◌∙◌, arith}
+use Rattle.model.specs.NetlistFile.{cells_at, last_check}
+use Rattle.laws.specs.Refusals.Search.{fault-here, fault-next, faults-end}
 use Rattle.netlist.specs.Offsets.{offset}
 use Rattle.netlist.proofs.Bytes.{cells-length, cell-fits, cell-of}
 use Rattle.netlist.proofs.LastChecks.{searched-early, last-wrong, last-right}

@@ -1,5 +1,5 @@
 -- `rules::input` meets its contract. Assumes nothing.
-use Rattle.std.proofs.Common.{refl, arith, rules, le-ltb, lt-ltb}
+use Rattle.std.proofs.Common.{refl, le-ltb, lt-ltb}
 use Rattle.netlist.proofs.rules.input.Goals as goal
 
 pub returns-then-i-n : goal.returns-then-i-n

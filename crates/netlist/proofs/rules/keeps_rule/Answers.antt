@@ -1,5 +1,5 @@
 -- `rules::keeps_rule` meets its contract: the tests of its kind's row, and no delay names a cell. Assumes nothing.
-use Rattle.std.proofs.Common.{◌≡◌, ℕ, true, not, refl, ap, rules}
+use Rattle.std.proofs.Common.{◌≡◌, ℕ, true, not, refl, ap}
 use Rattle.model.specs.declared.kinds.CellRow.{CellRow}
 use Rattle.model.specs.Circuit.{cell_table, cell_row, names}
 use Rattle.model.specs.NetlistFile.{keeps}

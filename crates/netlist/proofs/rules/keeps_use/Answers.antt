@@ -1,5 +1,5 @@
 -- `rules::keeps_use` meets its contract: in each arm the use is known, and both sides are the same tests. Assumes nothing.
-use Rattle.std.proofs.Common.{refl, rules}
+use Rattle.std.proofs.Common.{refl}
 use Rattle.model.specs.Circuit.{names}
 use Rattle.model.specs.NetlistFile.{control_in, word_in, array_in, kept}
 use Rattle.netlist.proofs.rules.keeps_use.Goals as goal

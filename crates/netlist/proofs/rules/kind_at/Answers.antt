@@ -1,5 +1,5 @@
 -- `rules::kind_at` meets its contract. Assumes nothing.
-use Rattle.std.proofs.Common.{sym, arith, rules}
+use Rattle.std.proofs.Common.{sym, arith}
 use Rattle.netlist.specs.Offsets.{offset}
 use Rattle.netlist.proofs.Bytes.{cell-fits, kind-of, kind-past}
 use Rattle.netlist.proofs.rules.kind_at.Goals as goal

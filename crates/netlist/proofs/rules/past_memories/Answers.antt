@@ -1,5 +1,5 @@
 -- `rules::past_memories` meets its contract. Assumes nothing.
-use Rattle.std.proofs.Common.{refl, rules, le-ltb, lt-ltb}
+use Rattle.std.proofs.Common.{refl, le-ltb, lt-ltb}
 use Rattle.netlist.proofs.rules.past_memories.Goals as goal
 
 pub returns-then-memories-lt16 : goal.returns-then-memories-lt16

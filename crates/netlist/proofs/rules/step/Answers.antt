@@ -1,5 +1,5 @@
 -- `rules::step` meets its contract. Assumes nothing.
-use Rattle.std.proofs.Common.{◌<◌, ◌≤◌, length, ◌∙◌, arith, rules}
+use Rattle.std.proofs.Common.{◌<◌, ◌≤◌, length, ◌∙◌, arith}
 use Rattle.netlist.proofs.CellChecks.{bit-small, cell-fault, stands-inputs, placed-more, scan-more}
 use Rattle.netlist.proofs.rules.step.Goals as goal
 

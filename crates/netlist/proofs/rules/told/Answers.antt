@@ -1,5 +1,4 @@
 -- `rules::told` meets its contract. Assumes nothing.
-use Rattle.std.proofs.Common.{rules}
 use Rattle.netlist.proofs.CellChecks.{rules-broken, count-wrong, finish-right, finish-wrong}
 use Rattle.netlist.proofs.rules.told.Goals as goal
 

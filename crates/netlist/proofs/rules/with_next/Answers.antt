@@ -1,5 +1,5 @@
 -- `rules::with_next` meets its contract. Assumes nothing.
-use Rattle.std.proofs.Common.{refl, rules}
+use Rattle.std.proofs.Common.{refl}
 use Rattle.netlist.proofs.rules.with_next.Goals as goal
 
 pub returns-then-kept-k : goal.returns-then-kept-k

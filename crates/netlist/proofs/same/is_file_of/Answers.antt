@@ -1,5 +1,5 @@
 -- `same::is_file_of` meets its contract. Assumes nothing.
-use Rattle.std.proofs.Common.{arith, rules}
+use Rattle.std.proofs.Common.{arith}
 use Rattle.netlist.proofs.Comparing.{other-header, same-header, header-room}
 use Rattle.netlist.proofs.same.is_file_of.Goals as goal
 

@@ -1,10 +1,8 @@
 -- `same::same_cells` meets its contract. The invariant: the answer from cell 0 is the answer from cell k. Assumes nothing.
-use Rattle.std.proofs.Common.{◌≡◌, ◌-◌, sym, refl, ◌∙◌, arith, rules}
-use borrow.Author.Tests.{not-false, not-true}
+use Rattle.std.proofs.Common.{◌≡◌, ◌-◌}
 use Rattle.model.specs.NetlistFile.{cells_at, in_list, in_file}
 use Rattle.netlist.specs.Compared.{same_cells}
-use Rattle.netlist.proofs.Bytes.{cell-fits}
-use Rattle.netlist.proofs.Comparing.{left, differ-here, same_here, same_end}
+use Rattle.netlist.proofs.Comparing.{left}
 use Rattle.netlist.proofs.same.same_cells.Given as goal
 
 abbrev pub invariant-loop-k : goal.invariant-loop-k

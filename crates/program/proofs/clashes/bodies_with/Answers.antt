@@ -1,13 +1,11 @@
 -- Which bodies do it: the array has it of the first p.
-use mathlib.Core.Path.{◌≡◌, refl, sym, ◌∙◌}
-use Prim.Native.Nat.{◌-◌, ◌≤◌}
+use mathlib.Core.Path.{refl, sym, ◌∙◌}
 use native.Mathlib.Omega.{arith}
-use lib.ListN.{length, length-set}
-use Rattle.model.specs.Program.{program_of}
+use lib.ListN.{length-set}
 use Rattle.laws.specs.Program.Passed.{count-bodies}
 use Rattle.program.specs.Uses.{side-known}
 use Rattle.program.specs.Roots.{root-side, body_is}
-use Rattle.program.proofs.Bodies.{Staged, staged-none, staged-more, stage-all}
+use Rattle.program.proofs.Bodies.{staged-none, staged-more, stage-all}
 use Rattle.program.proofs.clashes.bodies_with.Goals as goal
 
 pub loop-p-init : goal.loop-p-init

@@ -1,13 +1,9 @@
 -- Which bodies do it: the array has it of the first p.
-use mathlib.Core.Path.{◌≡◌, refl, sym, ◌∙◌}
+use mathlib.Core.Path.{◌≡◌}
 use Prim.Native.Nat.{◌-◌, ◌≤◌}
-use native.Mathlib.Omega.{arith}
-use lib.ListN.{length, length-set}
+use lib.ListN.{length}
 use Rattle.model.specs.Program.{program_of}
-use Rattle.laws.specs.Program.Passed.{count-bodies}
-use Rattle.program.specs.Uses.{side-known}
-use Rattle.program.specs.Roots.{root-side, body_is}
-use Rattle.program.proofs.Bodies.{Staged, staged-none, staged-more, stage-all}
+use Rattle.program.proofs.Bodies.{Staged}
 use Rattle.program.proofs.clashes.bodies_with.Given as goal
 
 abbrev pub invariant-loop-p : goal.invariant-loop-p

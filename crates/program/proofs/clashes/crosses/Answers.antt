@@ -1,5 +1,4 @@
 -- One direction of a clash.
-use borrow.Author.Rules.{rules}
 use Rattle.program.proofs.Crossing.{crosses_both, crosses-not}
 use Rattle.program.proofs.clashes.crosses.Goals as goal
 

@@ -1,7 +1,6 @@
 -- A statement does it if its nodes do, where the array tells of the bodies.
 use mathlib.Core.Path.{◌∙◌}
 use Rattle.program.specs.Uses.{marked-has, side-known}
-use borrow.Author.Rules.{rules}
 use Rattle.program.proofs.clashes.does.Goals as goal
 
 pub returns : goal.returns

@@ -1,19 +1,17 @@
 -- Refusal 8 or 25: the answer from node 0 is the answer from node i; at a parallel node, the sides cross on no number below x.
 use mathlib.Core.Path.{◌≡◌, sym, ◌∙◌, ap, ap₂}
 use mathlib.Core.Bool.{true, false, ◌||◌}
-use mathlib.Core.Logic.{⊎_elim}
-use Prim.Native.Nat.{ℕ, ◌+◌, ◌-◌, ◌≤◌}
+use Prim.Native.Nat.{ℕ}
 use native.Mathlib.Omega.{arith}
 use Rattle.model.specs.Word.{pick}
 use Rattle.model.specs.Refusals.{refuse}
-use Rattle.model.specs.Program.{node_count, stmt_at, program_of}
-use Rattle.laws.specs.Refusals.Search.{Searched, searched-none, fault-here, fault-next, faults-end}
+use Rattle.laws.specs.Refusals.Search.{searched-none, fault-here, fault-next, faults-end}
 use Rattle.laws.specs.Program.Passed.{count-bodies}
 use Rattle.program.specs.Ends.{past-trees}
 use Rattle.program.specs.Uses.{sides}
-use Rattle.program.specs.Roots.{clash_fault}
-use Rattle.program.proofs.Crossing.{few-x, some_number, none_below, none-start, none-next, crosses-none, crosses_some, clash-par, clash-other, clash-fault}
+use Rattle.program.proofs.Crossing.{few-x, some_number, none-start, none-next, crosses-none, crosses_some, clash-par, clash-other, clash-fault}
 use Rattle.program.proofs.clashes.first_clash.Goals as goal
+use Rattle.program.proofs.clashes.first_clash.Goals.{else-nodes-test, then-nodes-test+then-node-eq20+then-loop-x-test+then-crosses}
 
 pub nodes-init : goal.nodes-init
 nodes-init c = searched-none _ _
@@ -82,15 +80,16 @@ returns-then-i-count c =
     let most-of = c.most_of-most in
     let clash-number = c.clash_number in
     let all = most-of.ensures ∙ ap (λ (n : ℕ). pick start.args.shared n 20) (sym (count-bodies _ _ pre.readable 1)) in
-    ⊎_elim (λ w. absurd (omega (arith, w.left, c.if-i-count.true)))
-    (λ w.
-    c.refused.ensures
-    ∙ ap (λ (n : ℕ). refuse n nodes.i) clash-number.ensures
-    ∙ fault-here nodes.invariant (pick start.args.shared 25 8) w.0.taken (some_number start.args.shared)
-    (clash-fault _ _ _ _ true
-    (crosses_some _ _ _ _ _ all _ w.6.taken (sym (ap₂ ◌||◌ w.7.ensures w.8.ensures) ∙ w.9.taken)
-    ∙ clash-par _ _ _ _ w.0.taken _ w.1.ensures w.3.taken _ (past-trees _ _ _ (pre.laid.each _) _ w.4.ensures))))
-    c.nodes-test.branch
+    elim c.nodes-test.branch [
+      | else-nodes-test w ↦ absurd (omega (arith, w.nodes-test.false, c.if-i-count.true))
+      | then-nodes-test+then-node-eq20+then-loop-x-test+then-crosses w ↦
+          c.refused.ensures
+          ∙ ap (λ (n : ℕ). refuse n nodes.i) clash-number.ensures
+          ∙ fault-here nodes.invariant (pick start.args.shared 25 8) w.nodes-test.true (some_number start.args.shared)
+          (clash-fault _ _ _ _ true
+          (crosses_some _ _ _ _ _ all _ w.loop-x-test.true (sym (ap₂ ◌||◌ w.crosses.ensures w.crosses-in-loop-x.ensures) ∙ w.if-crosses.true)
+          ∙ clash-par _ _ _ _ w.nodes-test.true _ w.read_node-node.ensures w.if-node-eq20.true _ (past-trees _ _ _ (pre.laid.each _) _ w.next-second.ensures)))
+    ]
 
 pub returns : goal.returns
 returns c =

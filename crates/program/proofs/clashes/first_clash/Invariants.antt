@@ -1,18 +1,9 @@
 -- Refusal 8 or 25: the answer from node 0 is the answer from node i; at a parallel node, the sides cross on no number below x.
-use mathlib.Core.Path.{◌≡◌, sym, ◌∙◌, ap, ap₂}
-use mathlib.Core.Bool.{true, false, ◌||◌}
-use mathlib.Core.Logic.{⊎_elim}
-use Prim.Native.Nat.{ℕ, ◌+◌, ◌-◌, ◌≤◌}
-use native.Mathlib.Omega.{arith}
-use Rattle.model.specs.Word.{pick}
-use Rattle.model.specs.Refusals.{refuse}
+use Prim.Native.Nat.{◌+◌, ◌-◌, ◌≤◌}
 use Rattle.model.specs.Program.{node_count, stmt_at, program_of}
-use Rattle.laws.specs.Refusals.Search.{Searched, searched-none, fault-here, fault-next, faults-end}
-use Rattle.laws.specs.Program.Passed.{count-bodies}
-use Rattle.program.specs.Ends.{past-trees}
-use Rattle.program.specs.Uses.{sides}
+use Rattle.laws.specs.Refusals.Search.{Searched}
 use Rattle.program.specs.Roots.{clash_fault}
-use Rattle.program.proofs.Crossing.{few-x, some_number, none_below, none-start, none-next, crosses-none, crosses_some, clash-par, clash-other, clash-fault}
+use Rattle.program.proofs.Crossing.{none_below}
 use Rattle.program.proofs.clashes.first_clash.Given as goal
 
 abbrev pub invariant-loop-x : goal.invariant-loop-x

@@ -1,6 +1,5 @@
 -- A node that does what a mark says, by computation.
 use mathlib.Core.Path.{refl}
-use borrow.Author.Rules.{rules}
 use Rattle.program.specs.Uses.{names}
 use Rattle.program.proofs.clashes.names.Goals as goal
 

@@ -1,10 +1,6 @@
 -- What a statement does: whether its nodes do it is whether those from node k on do.
-use mathlib.Core.Path.{◌≡◌, refl, sym, ◌∙◌, ap}
-use mathlib.Core.Bool.{false}
-use Prim.Native.Nat.{◌-◌}
+use mathlib.Core.Path.{sym, ◌∙◌, ap}
 use native.Mathlib.Omega.{arith}
-use lib.ListN.{get_or}
-use Rattle.model.specs.Program.{nodes_from}
 use Rattle.program.specs.Uses.{any_marked, marked-here, marked_next, marked-end, side-within, side-nodes}
 use Rattle.program.proofs.clashes.uses.Goals as goal
 

@@ -1,11 +1,10 @@
 -- What a statement does: whether its nodes do it is whether those from node k on do.
-use mathlib.Core.Path.{◌≡◌, refl, sym, ◌∙◌, ap}
+use mathlib.Core.Path.{◌≡◌}
 use mathlib.Core.Bool.{false}
 use Prim.Native.Nat.{◌-◌}
-use native.Mathlib.Omega.{arith}
 use lib.ListN.{get_or}
 use Rattle.model.specs.Program.{nodes_from}
-use Rattle.program.specs.Uses.{any_marked, marked-here, marked_next, marked-end, side-within, side-nodes}
+use Rattle.program.specs.Uses.{any_marked}
 use Rattle.program.proofs.clashes.uses.Given as goal
 
 abbrev pub invariant-loop-k : goal.invariant-loop-k

@@ -1,7 +1,6 @@
 -- The node after a subtree, which the array has.
 use borrow.Author.Tests.{lt-ltb, le-ltb}
 use Rattle.program.specs.Ends.{past}
-use borrow.Author.Rules.{rules}
 use Rattle.program.proofs.nodes.next.Goals as goal
 
 pub returns-then-i-count : goal.returns-then-i-count

@@ -1,6 +1,5 @@
 -- The node at i, from its four bytes.
 use Rattle.model.specs.Program.{node_at}
-use borrow.Author.Rules.{rules}
 use Rattle.program.proofs.nodes.read_node.Goals as goal
 
 pub returns : goal.returns

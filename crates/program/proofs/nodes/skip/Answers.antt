@@ -1,7 +1,6 @@
 -- The loop's invariant: so many subtrees from the first node end where those that are left do.
-use mathlib.Core.Path.{◌≡◌, refl, sym, ◌∙◌}
-use native.Mathlib.Omega.{arith}
-use Rattle.program.specs.Ends.{skips, skip-next, skip-end}
+use mathlib.Core.Path.{sym, ◌∙◌}
+use Rattle.program.specs.Ends.{skip-next, skip-end}
 use Rattle.program.proofs.nodes.skip.Goals as goal
 
 pub loop-left-preserved : goal.loop-left-preserved

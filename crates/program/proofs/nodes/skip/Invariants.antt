@@ -1,7 +1,6 @@
 -- The loop's invariant: so many subtrees from the first node end where those that are left do.
-use mathlib.Core.Path.{◌≡◌, refl, sym, ◌∙◌}
-use native.Mathlib.Omega.{arith}
-use Rattle.program.specs.Ends.{skips, skip-next, skip-end}
+use mathlib.Core.Path.{◌≡◌}
+use Rattle.program.specs.Ends.{skips}
 use Rattle.program.proofs.nodes.skip.Given as goal
 
 abbrev pub invariant-loop-left : goal.invariant-loop-left

@@ -8,7 +8,6 @@ use borrow.Author.Tests.{ltb-false}
 use Rattle.model.specs.ProgramChecks.{program_length_wrong, too_many_procedures}
 use Rattle.laws.specs.Refusals.Laws.{first_one, or-false}
 use Rattle.laws.specs.Program.Passed.{right-length}
-use borrow.Author.Rules.{rules}
 use Rattle.program.proofs.reading.early_check.Goals as goal
 
 -- the test of refusal 1

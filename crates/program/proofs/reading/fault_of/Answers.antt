@@ -1,7 +1,6 @@
 -- Refusals 2 to 4 of one node, test by test.
 use borrow.Author.Tests.{eq-eqb, ne_eqb}
 use Rattle.model.specs.ProgramChecks.{node_fault}
-use borrow.Author.Rules.{rules}
 use Rattle.program.proofs.reading.fault_of.Goals as goal
 
 pub returns-then-row-eq0 : goal.returns-then-row-eq0

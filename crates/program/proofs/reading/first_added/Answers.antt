@@ -2,12 +2,12 @@
 use mathlib.Core.Path.{◌≡◌, refl, sym, ◌∙◌, ap}
 use mathlib.Core.Bool.{true, false}
 use mathlib.Core.List.{List}
-use Prim.Native.Nat.{ℕ, ◌-◌}
+use Prim.Native.Nat.{ℕ}
 use native.Mathlib.Omega.{arith}
 use Rattle.model.specs.declared.Node.{Node}
-use Rattle.model.specs.Program.{node_at, node_count}
+use Rattle.model.specs.Program.{node_at}
 use Rattle.model.specs.ProgramChecks.{added, added_fault}
-use Rattle.laws.specs.Refusals.Search.{Searched, searched-none, fault-here, fault-next, faults-end}
+use Rattle.laws.specs.Refusals.Search.{searched-none, fault-here, fault-next, faults-end}
 use Rattle.program.proofs.reading.first_added.Goals as goal
 
 is-added : (s : List ℕ) (i : ℕ) → added (node_at s i).kind ≡ true → added_fault s i ≡ 28

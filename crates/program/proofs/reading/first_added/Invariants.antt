@@ -1,13 +1,8 @@
 -- Refusal 28: the answer from node 0 is the answer from node i.
-use mathlib.Core.Path.{◌≡◌, refl, sym, ◌∙◌, ap}
-use mathlib.Core.Bool.{true, false}
-use mathlib.Core.List.{List}
-use Prim.Native.Nat.{ℕ, ◌-◌}
-use native.Mathlib.Omega.{arith}
-use Rattle.model.specs.declared.Node.{Node}
-use Rattle.model.specs.Program.{node_at, node_count}
-use Rattle.model.specs.ProgramChecks.{added, added_fault}
-use Rattle.laws.specs.Refusals.Search.{Searched, searched-none, fault-here, fault-next, faults-end}
+use Prim.Native.Nat.{◌-◌}
+use Rattle.model.specs.Program.{node_count}
+use Rattle.model.specs.ProgramChecks.{added_fault}
+use Rattle.laws.specs.Refusals.Search.{Searched}
 use Rattle.program.proofs.reading.first_added.Given as goal
 
 abbrev pub invariant-loop-i : goal.invariant-loop-i

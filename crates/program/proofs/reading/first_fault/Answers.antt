@@ -1,10 +1,8 @@
 -- Refusals 2 to 4: the answer from node 0 is the answer from node i.
 use mathlib.Core.Path.{sym, ◌∙◌, ap}
-use Prim.Native.Nat.{ℕ, ◌-◌}
 use native.Mathlib.Omega.{arith}
-use Rattle.model.specs.Program.{node_at, node_count}
 use Rattle.model.specs.ProgramChecks.{node_fault}
-use Rattle.laws.specs.Refusals.Search.{Searched, searched-none, fault-here, fault-next, faults-end}
+use Rattle.laws.specs.Refusals.Search.{searched-none, fault-here, fault-next, faults-end}
 use Rattle.program.proofs.reading.first_fault.Goals as goal
 
 pub loop-i-init : goal.loop-i-init

@@ -1,13 +1,13 @@
 -- Refusals 5 and 6: the answer from node 0 is the answer from node i, with so many expressions and statements still to be read.
 use mathlib.Core.Path.{◌≡◌, sym, ◌∙◌, ap}
-use Prim.Native.Nat.{ℕ, ◌+◌, ◌-◌, ◌*◌, ◌≤◌}
+use Prim.Native.Nat.{ℕ}
 use native.Mathlib.Omega.{arith}
 use native.Mathlib.Numerals.{add-one}
 use lib.ListN.{replicate}
 use Rattle.model.specs.Refusals.{refuse}
 use Rattle.model.specs.Program.{node_count, nodes_at}
-use Rattle.model.specs.ProgramChecks.{reading, root_sorts}
-use Rattle.program.proofs.Misread.{wanted, read_left, read_short, read-end, read-no-stmt, read-no-expr, read-stmt, read-expr}
+use Rattle.model.specs.ProgramChecks.{reading}
+use Rattle.program.proofs.Misread.{read_left, read_short, read-end, read-no-stmt, read-no-expr, read-stmt, read-expr}
 use Rattle.program.proofs.reading.first_misread.Goals as goal
 
 pub loop-i-init : goal.loop-i-init
@@ -42,7 +42,7 @@ loop-i-preserved-then-exprs-eq0 c =
     let if1 = c.if-exprs-eq0 in
     let if2 = c.if-stmts-eq0 in (
       omega arith,
-      omega (arith, kind_row.type-inv),
+      omega (arith, kind_row.type_inv),
       loop.invariant.2
           ∙ read-stmt _ _ _ _ loop-test.true read-node.ensures kind_row.ensures _ _ if1.true if2.false c.if-row-ne2.false,
     )

@@ -1,13 +1,9 @@
 -- Refusals 5 and 6: the answer from node 0 is the answer from node i, with so many expressions and statements still to be read.
-use mathlib.Core.Path.{◌≡◌, sym, ◌∙◌, ap}
-use Prim.Native.Nat.{ℕ, ◌+◌, ◌-◌, ◌*◌, ◌≤◌}
-use native.Mathlib.Omega.{arith}
-use native.Mathlib.Numerals.{add-one}
-use lib.ListN.{replicate}
-use Rattle.model.specs.Refusals.{refuse}
-use Rattle.model.specs.Program.{node_count, nodes_at}
+use mathlib.Core.Path.{◌≡◌}
+use Prim.Native.Nat.{◌+◌, ◌-◌, ◌*◌, ◌≤◌}
+use Rattle.model.specs.Program.{nodes_at}
 use Rattle.model.specs.ProgramChecks.{reading, root_sorts}
-use Rattle.program.proofs.Misread.{wanted, read_left, read_short, read-end, read-no-stmt, read-no-expr, read-stmt, read-expr}
+use Rattle.program.proofs.Misread.{wanted}
 use Rattle.program.proofs.reading.first_misread.Given as goal
 
 abbrev pub invariant-loop-i : goal.invariant-loop-i

@@ -1,12 +1,10 @@
 -- Refusal 22 or 24: the answer from root 0 is the answer from root r.
-use mathlib.Core.Path.{◌≡◌, sym, ◌∙◌}
+use mathlib.Core.Path.{◌≡◌}
 use Prim.Native.Nat.{◌+◌, ◌-◌}
-use native.Mathlib.Omega.{arith}
 use Rattle.model.specs.Program.{roots, program_of}
 use Rattle.model.specs.ProgramChecks.{in_roots}
-use Rattle.program.specs.Roots.{root_fault, root-side}
-use Rattle.program.proofs.InRoots.{from_root, root-start, root-end, root-here, root-next}
-use borrow.Author.Rules.{rules}
+use Rattle.program.specs.Roots.{root_fault}
+use Rattle.program.proofs.InRoots.{from_root}
 use Rattle.program.proofs.roots.first_in_roots.Given as goal
 
 abbrev pub invariant-loop-r : goal.invariant-loop-r

@@ -1,10 +1,8 @@
 -- Refusal 24 in a root: the answer from its first node is the answer from node k.
-use mathlib.Core.Path.{◌≡◌, refl, sym, ◌∙◌}
-use Prim.Native.Nat.{◌-◌}
+use mathlib.Core.Path.{sym, ◌∙◌}
 use native.Mathlib.Omega.{arith}
-use Rattle.model.specs.Program.{nodes_from}
 use Rattle.program.specs.Uses.{side-within}
-use Rattle.program.proofs.Late.{late_nodes, late-here, late-next, late-end, late-side}
+use Rattle.program.proofs.Late.{late-here, late-next, late-end, late-side}
 use Rattle.program.proofs.roots.first_late.Goals as goal
 
 pub next-end-requires : goal.next-end-requires

@@ -1,10 +1,8 @@
 -- Refusal 24 in a root: the answer from its first node is the answer from node k.
-use mathlib.Core.Path.{◌≡◌, refl, sym, ◌∙◌}
+use mathlib.Core.Path.{◌≡◌}
 use Prim.Native.Nat.{◌-◌}
-use native.Mathlib.Omega.{arith}
 use Rattle.model.specs.Program.{nodes_from}
-use Rattle.program.specs.Uses.{side-within}
-use Rattle.program.proofs.Late.{late_nodes, late-here, late-next, late-end, late-side}
+use Rattle.program.proofs.Late.{late_nodes}
 use Rattle.program.proofs.roots.first_late.Given as goal
 
 abbrev pub invariant-loop-k : goal.invariant-loop-k

@@ -1,6 +1,5 @@
 -- 22 or 24, by the flag.
 use Rattle.program.specs.Roots.{root_fault}
-use borrow.Author.Rules.{rules}
 use Rattle.program.proofs.roots.root_fault.Goals as goal
 
 pub returns-then-late : goal.returns-then-late

@@ -2,7 +2,6 @@
 use mathlib.Core.Path.{◌∙◌}
 use Rattle.model.specs.NetlistFile.{pulse_wrong}
 use Rattle.program.proofs.TimeTables.{pulse-refuses, pulse-accepts}
-use borrow.Author.Rules.{rules}
 use Rattle.program.proofs.tables.check_given.Goals as goal
 
 pub returns-then-options : goal.returns-then-options

@@ -1,7 +1,6 @@
 -- Refusals 19 to 21, in their order.
 use mathlib.Core.Path.{◌∙◌}
 use Rattle.program.proofs.TimeTables.{at_length, at_sum, at-bytes}
-use borrow.Author.Rules.{rules}
 use Rattle.program.proofs.tables.check_table.Goals as goal
 
 pub returns-then-file-ne-BLOCK : goal.returns-then-file-ne-BLOCK

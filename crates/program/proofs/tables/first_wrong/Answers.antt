@@ -1,9 +1,7 @@
 -- Refusal 21: the answer from byte 0 is the answer from byte i.
 use mathlib.Core.Path.{sym, ◌∙◌}
-use Prim.Native.Nat.{◌-◌}
 use native.Mathlib.Omega.{arith}
-use Rattle.model.specs.TimeTables.{table_fault}
-use Rattle.laws.specs.Refusals.Search.{Searched, searched-none, fault-here, fault-next, faults-end}
+use Rattle.laws.specs.Refusals.Search.{searched-none, fault-here, fault-next, faults-end}
 use Rattle.program.proofs.TimeTables.{wrong_byte, right-byte}
 use Rattle.program.proofs.tables.first_wrong.Goals as goal
 

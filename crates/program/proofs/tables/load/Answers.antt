@@ -1,6 +1,5 @@
 -- What a file's check says, and its ten bytes.
 use Rattle.model.specs.TimeTables.{verdict_of, times_of, times_in, load}
-use borrow.Author.Rules.{rules}
 use Rattle.program.proofs.tables.load.Goals as goal
 
 pub returns : goal.returns

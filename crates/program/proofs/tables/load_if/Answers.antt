@@ -2,7 +2,6 @@
 use mathlib.Core.Bool.{Bool}
 use mathlib.Core.Path.{sym, ◌∙◌, ap}
 use Rattle.model.specs.TimeTables.{given_if, beside, load}
-use borrow.Author.Rules.{rules}
 use Rattle.program.proofs.tables.load_if.Goals as goal
 
 pub returns-then-timed : goal.returns-then-timed

@@ -1,11 +1,8 @@
 -- Refusal 7: the answer from node 0 is the answer from node i.
-use mathlib.Core.Path.{◌∙◌}
 use Prim.Native.Nat.{◌-◌}
-use native.Mathlib.Omega.{arith}
 use Rattle.model.specs.Program.{node_count, time_in}
 use Rattle.model.specs.ProgramChecks.{delay_fault}
-use Rattle.laws.specs.Refusals.Search.{Searched, searched-none, fault-here, fault-next, faults-end}
-use Rattle.program.specs.Times.{slow-at, not-slow-at}
+use Rattle.laws.specs.Refusals.Search.{Searched}
 use Rattle.program.proofs.times.first_slow.Given as goal
 
 abbrev pub invariant-loop-i : goal.invariant-loop-i

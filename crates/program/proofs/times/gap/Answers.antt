@@ -1,11 +1,7 @@
 -- The gap of a pulse length.
 use borrow.Author.Tests.{eq-eqb, ne_eqb}
 use native.Mathlib.Omega.{arith}
-use mathlib.Core.Path.{sym, ap, ◌∙◌}
-use mathlib.Core.Bool.{Bool}
-use Rattle.model.specs.Word.{pick}
 use Rattle.model.specs.Program.{gap}
-use borrow.Author.Rules.{rules}
 use Rattle.program.proofs.times.gap.Goals as goal
 
 pub returns-then-pulse-eq1 : goal.returns-then-pulse-eq1

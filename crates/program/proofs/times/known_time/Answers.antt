@@ -1,7 +1,6 @@
 -- A time that the array has; past the last node it is that of a constant.
 use Rattle.model.specs.Program.{time_in}
 use Rattle.program.specs.Times.{time-none}
-use borrow.Author.Rules.{rules}
 use Rattle.program.proofs.times.known_time.Goals as goal
 
 pub returns-then-i-program : goal.returns-then-i-program

@@ -4,7 +4,6 @@ use Prim.Native.Nat.{ℕ, max}
 use Rattle.model.specs.Program.{time_in}
 use Rattle.program.specs.Ends.{past-trees}
 use Rattle.program.specs.Times.{least-low, least-tick, least-seq, least-par, least-again, least-exit, least-if, least-assign, least-elem, least_other}
-use borrow.Author.Rules.{rules}
 use Rattle.program.proofs.times.least_at.Goals as goal
 
 pub returns-then-kind-le16 : goal.returns-then-kind-le16

@@ -5,7 +5,6 @@ use native.Mathlib.Omega.{arith}
 use Rattle.model.specs.Program.{time_in}
 use Rattle.program.specs.Ends.{past-trees, past-later}
 use Rattle.program.specs.Times.{time-stmt, time-const, time-var, time-compl, time-elem, time-op, time-fits}
-use borrow.Author.Rules.{rules}
 use Rattle.program.proofs.times.time_at.Goals as goal
 
 pub returns-then-kind-ge16 : goal.returns-then-kind-ge16

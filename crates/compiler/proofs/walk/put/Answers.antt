@@ -1,0 +1,8 @@
+-- `walk::put` meets its contract. Assumes nothing.
+use borrow.Author.Rules.{rules}
+use Rattle.compiler.specs.Writes.{write}
+use Rattle.compiler.proofs.walk.put.Goals as goal
+
+pub returns : goal.returns
+unfolding write
+returns c = c.put_cell.ensures.put

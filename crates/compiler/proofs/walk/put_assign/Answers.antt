@@ -1,0 +1,40 @@
+-- `walk::put_assign` meets its contract. Assumes nothing.
+use mathlib.Core.Path.{refl}
+use native.Mathlib.Omega.{arith}
+use borrow.Author.Rules.{rules}
+use Rattle.model.specs.Numbering.{delay_count}
+use Rattle.compiler.specs.Walk.{assignments}
+use Rattle.compiler.proofs.Stmts.{assign-done}
+use Rattle.compiler.proofs.Parts.{own-fits, assign-expr, assign-cell}
+use Rattle.compiler.proofs.walk.put_assign.Goals as goal
+
+pub put_expr-e-requires : goal.put_expr-e-requires
+put_expr-e-requires c =
+    let pre = c.requires in
+    (pre.0, assign-expr pre.1)
+
+pub put-requires : goal.put-requires
+put-requires c =
+    let e = c in
+    rw e.put_expr-e.auto.0 (assign-cell e.requires.1 e.put_expr-e.ensures)
+
+pub overflow_add-e : goal.overflow_add-e
+overflow_add-e c =
+    let e = c in
+    let ready = e.requires.1 in
+    omega (arith, ready.small, assign-cell ready e.put_expr-e.ensures)
+
+pub put_delays-requires : goal.put_delays-requires
+unfolding delay_count assignments
+put_delays-requires c =
+    let m = c in
+    let e = m in
+    rw (m.put.auto.0, e.put_expr-e.auto.0) (own-fits e.requires.1 refl refl)
+
+pub returns : goal.returns
+returns c =
+    let d = c.put_delays in
+    let m = c in
+    let e = m in
+    let ready = e.requires.1 in
+    λ F. assign-done ready.apart e.put_expr-e.ensures m.put.ensures c.put_delays.ensures.cells c.put_delays.ensures.marks.0 c.put_delays.ensures.marks.1

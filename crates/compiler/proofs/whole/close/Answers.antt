@@ -1,0 +1,57 @@
+-- `whole::close` meets its contract. Assumes nothing.
+use mathlib.Core.Path.{◌∙◌}
+use native.Mathlib.Omega.{arith}
+use Rattle.compiler.proofs.Assembly.{walk-low, clock-twenty, data-twenty, address-twenty, made}
+use Rattle.compiler.proofs.whole.close.Goals as goal
+
+pub put_memories-requires : goal.put_memories-requires
+put_memories-requires c =
+    let C = c.requires.closing in
+    let low = walk-low C.fitting C.clocks.memory in
+    (omega (arith, low), omega (arith, low, C.size), clock-twenty C.clocks, data-twenty C.walk)
+
+pub overflow_add-memory : goal.overflow_add-memory
+overflow_add-memory c =
+    let C = c.requires.closing in
+    omega (arith, walk-low C.fitting C.clocks.memory)
+
+pub put_arrays-requires : goal.put_arrays-requires
+put_arrays-requires c =
+    let C = c.requires.closing in
+    let low = walk-low C.fitting C.clocks.memory in
+    let memories = c.put_memories in
+    (omega (arith, low), omega (arith, low, C.size, memories.auto.0), clock-twenty C.clocks, data-twenty C.walk, address-twenty C.walk)
+
+pub put-requires : goal.put-requires
+put-requires c =
+    let arrays = c.put_arrays in
+    let memories = c.put_memories in
+    omega (arith, c.requires.closing.size, arrays.auto.0, memories.auto.0)
+
+pub put-requires-2 : goal.put-requires-2
+put-requires-2 c =
+    let first = c.put in
+    let arrays = c.put_arrays in
+    let memories = c.put_memories in
+    omega (arith, c.requires.closing.size, first.auto.0, arrays.auto.0, memories.auto.0)
+
+pub put-requires-3 : goal.put-requires-3
+put-requires-3 c =
+    let second = c.put-2 in
+    let first = c.put in
+    let arrays = c.put_arrays in
+    let memories = c.put_memories in
+    omega (arith, c.requires.closing.size, second.auto.0, first.auto.0, arrays.auto.0, memories.auto.0)
+
+pub shape_of-cells : goal.shape_of-cells
+shape_of-cells c =
+    c.put-3.auto.0 ∙ c.put-2.auto.0 ∙ c.put.auto.0 ∙ c.put_arrays.auto.0 ∙ c.put_memories.auto.0
+
+pub returns : goal.returns
+returns c =
+    let third = c.put-3 in
+    let second = c.put-2 in
+    let first = c.put in
+    let arrays = c.put_arrays in
+    let memories = c.put_memories in
+    λ S C. made C memories.ensures arrays.ensures first.ensures second.ensures third.ensures

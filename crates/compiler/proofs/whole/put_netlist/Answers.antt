@@ -1,0 +1,27 @@
+-- `whole::put_netlist` meets its contract. Assumes nothing.
+use mathlib.Core.Path.{refl, ◌∙◌}
+use Rattle.compiler.proofs.Assembly.{all-closing}
+use Rattle.compiler.proofs.whole.put_netlist.Goals as goal
+
+pub put_clocks-clocks-requires : goal.put_clocks-clocks-requires
+put_clocks-clocks-requires c = (c.requires, refl)
+
+pub put_walk-walked-requires : goal.put_walk-walked-requires
+put_walk-walked-requires c =
+    let clocks = c.put_clocks-clocks in
+    rw clocks.auto.0 (c.requires, clocks.ensures.memory, clocks.ensures.told)
+
+pub close-requires : goal.close-requires
+close-requires c =
+    let clocks = c.put_clocks-clocks in
+    let walk = c.put_walk-walked in
+    record { program = _; closing = all-closing c.requires clocks.ensures walk.ensures (walk.auto.0 ∙ clocks.auto.0) }
+
+pub shape_of-cells : goal.shape_of-cells
+shape_of-cells c = c.close.auto.0 ∙ c.put_walk-walked.auto.0 ∙ c.put_clocks-clocks.auto.0
+
+pub returns : goal.returns
+returns c =
+    let clocks = c.put_clocks-clocks in
+    let walk = c.put_walk-walked in
+    c.close.ensures _ (all-closing c.requires clocks.ensures walk.ensures (walk.auto.0 ∙ clocks.auto.0))

@@ -1,0 +1,18 @@
+-- `whole::put_root` meets its contract. Assumes nothing.
+use mathlib.Core.Path.{refl, ◌∙◌}
+use borrow.Author.Rules.{rules}
+use Rattle.compiler.proofs.Roots.{root-walk, root-done}
+use Rattle.compiler.proofs.whole.put_root.Goals as goal
+
+pub put_stmt-requires : goal.put_stmt-requires
+put_stmt-requires c =
+    let pre = c.requires in
+    let put-chain = c.put_chain-start in
+    (pre.0, rw put-chain.auto.0 (root-walk pre.1 put-chain.ensures), pre.2)
+
+pub returns : goal.returns
+returns c =
+    let pre = c.requires in
+    let put-chain = c.put_chain-start in
+    let put-stmt = c.put_stmt in
+    record { done = root-done pre.1 refl put-chain.ensures c.put_stmt.ensures.done; outs = c.put_stmt.ensures.outs.same ∙ pre.2 }

@@ -1,0 +1,21 @@
+-- `whole::put_roots` meets its contract: what is still to be put in from root r on comes out as at the start. Assumes nothing.
+use mathlib.Core.Path.{◌≡◌, refl}
+use mathlib.Core.List.{List}
+use Prim.Native.Nat.{◌+◌, ◌-◌, ◌≤◌}
+use native.Mathlib.Omega.{arith}
+use borrow.Author.Rules.{rules}
+use lib.ListN.{length}
+use Rattle.model.specs.Program.{program_of}
+use Rattle.model.specs.Numbering.{Source}
+use Rattle.compiler.specs.Whole.{Told}
+use Rattle.compiler.proofs.Roots.{Rooting, rooting-start}
+use Rattle.compiler.proofs.Assembly.{few-procedures, root-ready, root-further, roots-end}
+use Rattle.compiler.proofs.whole.put_roots.Given as goal
+
+abbrev pub invariant-loop-r : goal.invariant-loop-r
+invariant-loop-r l =
+    (l.r ≤ l.procedures + 1) × (length l.outs ≡ 200)
+    × ((cs : List Source) → Told cs l.callers l.count → Rooting (program_of l.pulse l.procedures l.program) cs l.memory l.initial.cells l.initial.marks l.cells l.marks l.finishes l.at l.r)
+
+abbrev pub decreases-loop-r : goal.decreases-loop-r
+decreases-loop-r l = l.procedures + 1 - l.r

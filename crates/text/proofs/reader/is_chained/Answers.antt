@@ -1,0 +1,11 @@
+-- `reader::is_chained` meets its contract. Assumes nothing.
+use Rattle.std.proofs.Common.{refl}
+use Rattle.text.proofs.Arms.{popped-shown}
+use Rattle.text.proofs.reader.is_chained.Goals as goal
+
+pub returns : goal.returns
+returns c =
+    let args = c.args in
+    let pop = c.pop-p in
+    let top-code = c.top_code-top in
+    λ n r h. rw (popped-shown h 7 pop.ensures (top-code.ensures args.starts.now)) refl

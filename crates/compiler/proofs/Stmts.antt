@@ -1,19 +1,19 @@
 -- What the walk of a statement leaves, kind by kind, from what it leaves of the parts. Assumes nothing.
-use mathlib.Core.Path.{◌≡◌, refl, sym, ◌∙◌, ap}
+use mathlib.Core.Path.{◌≡◌, refl}
 use mathlib.Core.List.{List, [], ◌∷◌, append_assoc}
-use Prim.Native.Nat.{ℕ, zero, suc, ◌+◌, ◌≤◌}
+use Prim.Native.Nat.{ℕ, ◌+◌, ◌≤◌}
 use native.Mathlib.Omega.{arith}
 use lib.ListN.{length, length-append}
 use lib.Seq.{sets}
 use Rattle.model.specs.Program.{Expr, Code, ok, tick, assign, assign_elem, seq, par, ite, while, repeat, loop, exit, call, array_var}
 use Rattle.model.specs.Circuit.{cell}
-use Rattle.model.specs.Numbering.{memory_wires, expr_count, expr_wire, expr_cells, past_switches, switches, if_delay_count, if_delay_cells, if_pulse, ors, delay_count, exit_count, exits_at, loop_exits, finish_wire, delays, walk}
+use Rattle.model.specs.Numbering.{memory_wires, expr_count, past_switches, switches, if_pulse, ors, delay_count, exit_count, exits_at, loop_exits, finish_wire, delays, walk}
 use Rattle.laws.specs.Numbering.Lengths.{e-len, ors-len, own-len}
 use Rattle.compiler.specs.declared.walk.Word.{Word}
 use Rattle.compiler.specs.declared.walk.Place.{Place}
 use Rattle.compiler.specs.Writes.{write}
 use Rattle.compiler.specs.Walk.{place, ExprDone, Switched, marks_of, Owned, Done, ExitsJoined}
-use Rattle.compiler.proofs.Writes.{behind, write-none, write-append}
+use Rattle.compiler.proofs.Writes.{behind}
 use Rattle.compiler.proofs.Growth.{left, grown-none, grow-delay, grow-walk, grow-marks, grow-part, grow-front, closed}
 
 -- Statements without parts -------------------------------------------------------------------------------------------------------------

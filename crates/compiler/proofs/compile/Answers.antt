@@ -1,7 +1,6 @@
 -- `compile` meets its contract. Assumes nothing.
 use mathlib.Core.Path.{sym, ◌∙◌}
 use native.Mathlib.Omega.{arith}
-use borrow.Author.Rules.{rules}
 use Rattle.laws.specs.Program.Passed.{accepted-pulse}
 use Rattle.compiler.proofs.Call.{scanned, list-room, compile-refused, compile-writes}
 use Rattle.compiler.proofs.compile.Goals as goal
@@ -23,7 +22,7 @@ write_file-requires c =
     let put-netlist = c.put_netlist-made in
     let options = c.args.options in
     let accepted = sym scan.ensures.checked ∙ c.in_default.is in
-    let room = list-room options _ put-netlist.ensures accepted put-netlist.auto.0 in
+    let room = list-room options _ put-netlist.ensures accepted put-netlist.auto.cells in
     let pulse = (accepted-pulse options _ accepted).1 in
     (room, omega (arith, pulse))
 

@@ -1,7 +1,6 @@
 -- `compile_accepted` meets its contract. Assumes nothing.
 use mathlib.Core.Path.{sym}
 use native.Mathlib.Omega.{arith}
-use borrow.Author.Rules.{rules}
 use Rattle.laws.specs.Program.Passed.{accepted-pulse}
 use Rattle.compiler.proofs.Call.{scanned, file-size, list-room, file-put}
 use Rattle.compiler.proofs.compile_accepted.Goals as goal
@@ -19,7 +18,7 @@ put_file-requires c =
     let put-netlist = c.put_netlist-made in
     let pre = start.requires in
     let made = put-netlist.ensures in
-    (omega (arith, file-size start.args.options _ made, pre.1), list-room start.args.options _ made pre.0 put-netlist.auto.0, omega (arith, (accepted-pulse start.args.options _ pre.0).1))
+    (omega (arith, file-size start.args.options _ made, pre.1), list-room start.args.options _ made pre.0 put-netlist.auto.cells, omega (arith, (accepted-pulse start.args.options _ pre.0).1))
 
 pub returns : goal.returns
 returns c =

@@ -1,5 +1,4 @@
 -- `count_cells` meets its contract. Assumes nothing.
-use borrow.Author.Rules.{rules}
 use Rattle.compiler.proofs.Call.{scanned}
 use Rattle.compiler.proofs.count_cells.Goals as goal
 

@@ -1,6 +1,4 @@
 -- `list_accepted` meets its contract. Assumes nothing.
-use mathlib.Core.Path.{◌≡◌, refl}
-use borrow.Author.Rules.{rules}
 use Rattle.compiler.proofs.Call.{scanned}
 use Rattle.compiler.proofs.list_accepted.Goals as goal
 

@@ -1,5 +1,4 @@
 -- `nodes::expr_node` meets its contract. Assumes nothing.
-use borrow.Author.Rules.{rules}
 use Rattle.compiler.proofs.Reading.{no_node, other-expr, expr-read}
 use Rattle.compiler.proofs.nodes.expr_node.Goals as goal
 

@@ -1,5 +1,4 @@
 -- `nodes::stmt_node` meets its contract. Assumes nothing.
-use borrow.Author.Rules.{rules}
 use Rattle.compiler.proofs.Reading.{no_node, other-stmt, stmt-read}
 use Rattle.compiler.proofs.nodes.stmt_node.Goals as goal
 

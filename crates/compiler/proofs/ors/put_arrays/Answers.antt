@@ -1,10 +1,7 @@
 -- `ors::put_arrays` meets its contract: putting in the arrays that are left comes out as at the start. Assumes nothing.
 use mathlib.Core.Path.{◌≡◌, refl, sym, ◌∙◌}
-use Prim.Native.Nat.{◌+◌, ◌-◌, ◌*◌, ◌≤◌}
+use Prim.Native.Nat.{◌+◌, ◌*◌}
 use native.Mathlib.Omega.{arith}
-use lib.ListN.{length, drop}
-use Rattle.model.specs.Numbering.{arrays_of}
-use Rattle.compiler.specs.Writes.{write}
 use Rattle.compiler.proofs.Joining.{arrays-more, arrays-end}
 use Rattle.compiler.proofs.ors.put_arrays.Goals as goal
 
@@ -69,7 +66,7 @@ pub put-requires-in-loop-k : goal.put-requires-in-loop-k
 put-requires-in-loop-k c =
     let pre = c.requires in
     let loop = c.loop-k in
-    omega (arith, c.loop-k-test.true, pre.1, c.put.auto.0, loop.invariant.1)
+    omega (arith, c.loop-k-test.true, pre.1, c.put.auto.cells, loop.invariant.1)
 
 pub overflow_add-k : goal.overflow_add-k
 overflow_add-k c = omega (arith, c.loop-k-test.true)
@@ -85,7 +82,7 @@ loop-k-preserved c =
     let loop = c.loop-k in
     let args = c.args in (
       sym (arrays-more args.clocks.now args.datas.now args.addresses.now args.first loop.k loop.cells more put.ensures put2.ensures) ∙ loop.invariant.0,
-      put2.auto.0 ∙ put.auto.0 ∙ loop.invariant.1,
+      put2.auto.cells ∙ put.auto.cells ∙ loop.invariant.1,
       omega (arith, more),
     )
 

@@ -1,11 +1,9 @@
 -- `ors::put_arrays` meets its contract: putting in the arrays that are left comes out as at the start. Assumes nothing.
-use mathlib.Core.Path.{◌≡◌, refl, sym, ◌∙◌}
+use mathlib.Core.Path.{◌≡◌}
 use Prim.Native.Nat.{◌+◌, ◌-◌, ◌*◌, ◌≤◌}
-use native.Mathlib.Omega.{arith}
 use lib.ListN.{length, drop}
 use Rattle.model.specs.Numbering.{arrays_of}
 use Rattle.compiler.specs.Writes.{write}
-use Rattle.compiler.proofs.Joining.{arrays-more, arrays-end}
 use Rattle.compiler.proofs.ors.put_arrays.Given as goal
 
 abbrev pub invariant-loop-k : goal.invariant-loop-k

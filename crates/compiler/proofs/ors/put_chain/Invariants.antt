@@ -1,7 +1,6 @@
 -- `ors::put_chain` meets its contract: joining the wires that are left comes out as at the start. Assumes nothing.
 use Prim.Native.Nat.{◌-◌}
-use native.Mathlib.Omega.{arith}
-use Rattle.compiler.proofs.Joining.{Chaining, chain-start, chain-skip, chain_first, chain-room, chain_more, chain-end}
+use Rattle.compiler.proofs.Joining.{Chaining}
 use Rattle.compiler.proofs.ors.put_chain.Given as goal
 
 abbrev pub invariant-loop-k : goal.invariant-loop-k

@@ -1,10 +1,7 @@
 -- `ors::put_memories` meets its contract: putting in the memories that are left comes out as at the start. Assumes nothing.
 use mathlib.Core.Path.{◌≡◌, refl, sym, ◌∙◌}
-use Prim.Native.Nat.{◌+◌, ◌-◌, ◌≤◌}
+use Prim.Native.Nat.{◌+◌}
 use native.Mathlib.Omega.{arith}
-use lib.ListN.{length}
-use Rattle.model.specs.Numbering.{memories_of}
-use Rattle.compiler.specs.Writes.{write}
 use Rattle.compiler.proofs.Joining.{memories-more, memories-end}
 use Rattle.compiler.proofs.ors.put_memories.Goals as goal
 
@@ -61,7 +58,7 @@ loop-x-preserved c =
     let loop = c.loop-x in
     let more = loop-test.true in (
       sym (memories-more _ _ _ _ _ more put.ensures) ∙ loop.invariant.0,
-      put.auto.0 ∙ loop.invariant.1,
+      put.auto.cells ∙ loop.invariant.1,
       omega (arith, more),
     )
 

@@ -1,11 +1,9 @@
 -- `ors::put_memories` meets its contract: putting in the memories that are left comes out as at the start. Assumes nothing.
-use mathlib.Core.Path.{◌≡◌, refl, sym, ◌∙◌}
+use mathlib.Core.Path.{◌≡◌}
 use Prim.Native.Nat.{◌+◌, ◌-◌, ◌≤◌}
-use native.Mathlib.Omega.{arith}
 use lib.ListN.{length}
 use Rattle.model.specs.Numbering.{memories_of}
 use Rattle.compiler.specs.Writes.{write}
-use Rattle.compiler.proofs.Joining.{memories-more, memories-end}
 use Rattle.compiler.proofs.ors.put_memories.Given as goal
 
 abbrev pub invariant-loop-x : goal.invariant-loop-x

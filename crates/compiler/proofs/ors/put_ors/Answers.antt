@@ -1,9 +1,7 @@
 -- `ors::put_ors` meets its contract: joining the wires of the variables that are left comes out as at the start. Assumes nothing.
 use mathlib.Core.Path.{refl}
-use Prim.Native.Nat.{◌-◌}
 use native.Mathlib.Omega.{arith}
-use Rattle.compiler.specs.Ors.{sources_from}
-use Rattle.compiler.proofs.Joining.{Joining, joining-start, joining-room, joining-more, joining-end}
+use Rattle.compiler.proofs.Joining.{joining-start, joining-room, joining-more, joining-end}
 use Rattle.compiler.proofs.ors.put_ors.Goals as goal
 
 pub loop-x-init : goal.loop-x-init

@@ -1,5 +1,4 @@
 -- `walk::put` meets its contract. Assumes nothing.
-use borrow.Author.Rules.{rules}
 use Rattle.compiler.specs.Writes.{write}
 use Rattle.compiler.proofs.walk.put.Goals as goal
 

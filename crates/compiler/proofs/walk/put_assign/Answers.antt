@@ -1,7 +1,6 @@
 -- `walk::put_assign` meets its contract. Assumes nothing.
 use mathlib.Core.Path.{refl}
 use native.Mathlib.Omega.{arith}
-use borrow.Author.Rules.{rules}
 use Rattle.model.specs.Numbering.{delay_count}
 use Rattle.compiler.specs.Walk.{assignments}
 use Rattle.compiler.proofs.Stmts.{assign-done}
@@ -16,7 +15,7 @@ put_expr-e-requires c =
 pub put-requires : goal.put-requires
 put-requires c =
     let e = c in
-    rw e.put_expr-e.auto.0 (assign-cell e.requires.1 e.put_expr-e.ensures)
+    rw e.put_expr-e.auto.cells (assign-cell e.requires.1 e.put_expr-e.ensures)
 
 pub overflow_add-e : goal.overflow_add-e
 overflow_add-e c =
@@ -29,7 +28,7 @@ unfolding delay_count assignments
 put_delays-requires c =
     let m = c in
     let e = m in
-    rw (m.put.auto.0, e.put_expr-e.auto.0) (own-fits e.requires.1 refl refl)
+    rw (m.put.auto.cells, e.put_expr-e.auto.cells) (own-fits e.requires.1 refl refl)
 
 pub returns : goal.returns
 returns c =
@@ -37,4 +36,4 @@ returns c =
     let m = c in
     let e = m in
     let ready = e.requires.1 in
-    λ F. assign-done ready.apart e.put_expr-e.ensures m.put.ensures c.put_delays.ensures.cells c.put_delays.ensures.marks.0 c.put_delays.ensures.marks.1
+    λ F. assign-done ready.apart e.put_expr-e.ensures m.put.ensures c.put_delays.ensures.cells c.put_delays.ensures.marks c.put_delays.ensures.place

@@ -1,7 +1,6 @@
 -- `walk::put_element` meets its contract. Assumes nothing.
 use mathlib.Core.Path.{refl}
 use native.Mathlib.Omega.{arith}
-use borrow.Author.Rules.{rules}
 use Rattle.model.specs.Numbering.{delay_count}
 use Rattle.compiler.specs.Walk.{assignments}
 use Rattle.compiler.proofs.Stmts.{element-done}
@@ -17,7 +16,7 @@ pub put_expr-value-requires : goal.put_expr-value-requires
 put_expr-value-requires c =
     let i = c in
     let pre = i.requires in
-    rw i.put_expr-index.auto.0 (pre.0, element-value pre.1 i.put_expr-index.ensures)
+    rw i.put_expr-index.auto.cells (pre.0, element-value pre.1 i.put_expr-index.ensures)
 
 pub overflow_add-address : goal.overflow_add-address
 overflow_add-address c =
@@ -31,7 +30,7 @@ put-requires c =
     let e = c in
     let i = e in
     let ready = i.requires.1 in
-    rw (e.put_expr-value.auto.0, i.put_expr-index.auto.0) (omega (arith, element-cells ready i.put_expr-index.ensures e.put_expr-value.ensures))
+    rw (e.put_expr-value.auto.cells, i.put_expr-index.auto.cells) (omega (arith, element-cells ready i.put_expr-index.ensures e.put_expr-value.ensures))
 
 pub put-requires-2 : goal.put-requires-2
 put-requires-2 c =
@@ -39,7 +38,7 @@ put-requires-2 c =
     let e = m in
     let i = e in
     let ready = i.requires.1 in
-    rw (m.put.auto.0, e.put_expr-value.auto.0, i.put_expr-index.auto.0) (omega (arith, element-cells ready i.put_expr-index.ensures e.put_expr-value.ensures))
+    rw (m.put.auto.cells, e.put_expr-value.auto.cells, i.put_expr-index.auto.cells) (omega (arith, element-cells ready i.put_expr-index.ensures e.put_expr-value.ensures))
 
 pub overflow_add-own : goal.overflow_add-own
 overflow_add-own c = omega (arith, c.requires.1.formed.1)
@@ -58,7 +57,7 @@ put_delays-requires c =
     let m = n in
     let e = m in
     let i = e in
-    rw (n.put-2.auto.0, m.put.auto.0, e.put_expr-value.auto.0, i.put_expr-index.auto.0) (own-fits i.requires.1 refl refl)
+    rw (n.put-2.auto.cells, m.put.auto.cells, e.put_expr-value.auto.cells, i.put_expr-index.auto.cells) (own-fits i.requires.1 refl refl)
 
 pub returns : goal.returns
 returns c =
@@ -68,4 +67,4 @@ returns c =
     let e = m in
     let i = e in
     let ready = i.requires.1 in
-    λ F. element-done ready.apart i.put_expr-index.ensures e.put_expr-value.ensures m.put.ensures n.put-2.ensures c.put_delays.ensures.cells c.put_delays.ensures.marks.0 c.put_delays.ensures.marks.1
+    λ F. element-done ready.apart i.put_expr-index.ensures e.put_expr-value.ensures m.put.ensures n.put-2.ensures c.put_delays.ensures.cells c.put_delays.ensures.marks c.put_delays.ensures.place

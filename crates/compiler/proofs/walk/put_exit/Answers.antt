@@ -1,7 +1,6 @@
 -- `walk::put_exit` meets its contract. Assumes nothing.
 use mathlib.Core.Path.{refl}
 use native.Mathlib.Omega.{arith}
-use borrow.Author.Rules.{rules}
 use Rattle.compiler.proofs.Exits.{exit-opened}
 use Rattle.compiler.proofs.walk.put_exit.Goals as goal
 

@@ -1,7 +1,6 @@
 -- `walk::put_exits` meets its contract: joining the starts that are left comes out as at the start. Assumes nothing.
-use Prim.Native.Nat.{◌-◌}
 use native.Mathlib.Omega.{arith}
-use Rattle.compiler.proofs.Exits.{Exiting, exits-none, exits-start, exits-room, exits-more, exits-end}
+use Rattle.compiler.proofs.Exits.{exits-none, exits-start, exits-room, exits-more, exits-end}
 use Rattle.compiler.proofs.walk.put_exits.Goals as goal
 
 pub returns-then-end-first : goal.returns-then-end-first

@@ -1,5 +1,4 @@
 -- `walk::put_own` meets its contract. Assumes nothing.
-use borrow.Author.Rules.{rules}
 use Rattle.compiler.proofs.Exprs.{own-none, own-some}
 use Rattle.compiler.proofs.walk.put_own.Goals as goal
 

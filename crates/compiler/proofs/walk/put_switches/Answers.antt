@@ -1,5 +1,4 @@
 -- `walk::put_switches` meets its contract. Assumes nothing.
-use borrow.Author.Rules.{rules}
 use Rattle.compiler.proofs.Exprs.{switches-done}
 use Rattle.compiler.proofs.walk.put_switches.Goals as goal
 

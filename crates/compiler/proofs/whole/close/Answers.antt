@@ -20,20 +20,20 @@ put_arrays-requires c =
     let C = c.requires.closing in
     let low = walk-low C.fitting C.clocks.memory in
     let memories = c.put_memories in
-    (omega (arith, low), omega (arith, low, C.size, memories.auto.0), clock-twenty C.clocks, data-twenty C.walk, address-twenty C.walk)
+    (omega (arith, low), omega (arith, low, C.size, memories.auto.cells), clock-twenty C.clocks, data-twenty C.walk, address-twenty C.walk)
 
 pub put-requires : goal.put-requires
 put-requires c =
     let arrays = c.put_arrays in
     let memories = c.put_memories in
-    omega (arith, c.requires.closing.size, arrays.auto.0, memories.auto.0)
+    omega (arith, c.requires.closing.size, arrays.auto.cells, memories.auto.cells)
 
 pub put-requires-2 : goal.put-requires-2
 put-requires-2 c =
     let first = c.put in
     let arrays = c.put_arrays in
     let memories = c.put_memories in
-    omega (arith, c.requires.closing.size, first.auto.0, arrays.auto.0, memories.auto.0)
+    omega (arith, c.requires.closing.size, first.auto.cells, arrays.auto.cells, memories.auto.cells)
 
 pub put-requires-3 : goal.put-requires-3
 put-requires-3 c =
@@ -41,11 +41,11 @@ put-requires-3 c =
     let first = c.put in
     let arrays = c.put_arrays in
     let memories = c.put_memories in
-    omega (arith, c.requires.closing.size, second.auto.0, first.auto.0, arrays.auto.0, memories.auto.0)
+    omega (arith, c.requires.closing.size, second.auto.cells, first.auto.cells, arrays.auto.cells, memories.auto.cells)
 
 pub shape_of-cells : goal.shape_of-cells
 shape_of-cells c =
-    c.put-3.auto.0 ∙ c.put-2.auto.0 ∙ c.put.auto.0 ∙ c.put_arrays.auto.0 ∙ c.put_memories.auto.0
+    c.put-3.auto.cells ∙ c.put-2.auto.cells ∙ c.put.auto.cells ∙ c.put_arrays.auto.cells ∙ c.put_memories.auto.cells
 
 pub returns : goal.returns
 returns c =

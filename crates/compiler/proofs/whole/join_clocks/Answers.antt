@@ -1,5 +1,4 @@
 -- `whole::join_clocks` meets its contract. Assumes nothing.
-use borrow.Author.Rules.{rules}
 use Rattle.compiler.proofs.Assembly.{clocks-ready, clocked}
 use Rattle.compiler.proofs.whole.join_clocks.Goals as goal
 

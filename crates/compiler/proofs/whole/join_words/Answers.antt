@@ -1,5 +1,4 @@
 -- `whole::join_words` meets its contract. Assumes nothing.
-use borrow.Author.Rules.{rules}
 use Rattle.compiler.proofs.Assembly.{datas-ready, addresses-ready, walked}
 use Rattle.compiler.proofs.whole.join_words.Goals as goal
 
@@ -9,7 +8,7 @@ put_ors-joined-requires c = datas-ready c.requires.put
 pub put_ors-addressed-requires : goal.put_ors-addressed-requires
 put_ors-addressed-requires c =
     let datas = c.put_ors-joined in
-    rw datas.auto.0 (addresses-ready c.requires.put datas.ensures)
+    rw datas.auto.cells (addresses-ready c.requires.put datas.ensures)
 
 pub returns : goal.returns
 returns c =

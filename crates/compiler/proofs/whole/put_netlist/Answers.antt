@@ -9,19 +9,19 @@ put_clocks-clocks-requires c = (c.requires, refl)
 pub put_walk-walked-requires : goal.put_walk-walked-requires
 put_walk-walked-requires c =
     let clocks = c.put_clocks-clocks in
-    rw clocks.auto.0 (c.requires, clocks.ensures.memory, clocks.ensures.told)
+    rw clocks.auto.cells (c.requires, clocks.ensures.memory, clocks.ensures.told)
 
 pub close-requires : goal.close-requires
 close-requires c =
     let clocks = c.put_clocks-clocks in
     let walk = c.put_walk-walked in
-    record { program = _; closing = all-closing c.requires clocks.ensures walk.ensures (walk.auto.0 ∙ clocks.auto.0) }
+    record { program = _; closing = all-closing c.requires clocks.ensures walk.ensures (walk.auto.cells ∙ clocks.auto.cells) }
 
 pub shape_of-cells : goal.shape_of-cells
-shape_of-cells c = c.close.auto.0 ∙ c.put_walk-walked.auto.0 ∙ c.put_clocks-clocks.auto.0
+shape_of-cells c = c.close.auto.cells ∙ c.put_walk-walked.auto.cells ∙ c.put_clocks-clocks.auto.cells
 
 pub returns : goal.returns
 returns c =
     let clocks = c.put_clocks-clocks in
     let walk = c.put_walk-walked in
-    c.close.ensures _ (all-closing c.requires clocks.ensures walk.ensures (walk.auto.0 ∙ clocks.auto.0))
+    c.close.ensures _ (all-closing c.requires clocks.ensures walk.ensures (walk.auto.cells ∙ clocks.auto.cells))

@@ -1,6 +1,5 @@
 -- `whole::put_root` meets its contract. Assumes nothing.
 use mathlib.Core.Path.{refl, ◌∙◌}
-use borrow.Author.Rules.{rules}
 use Rattle.compiler.proofs.Roots.{root-walk, root-done}
 use Rattle.compiler.proofs.whole.put_root.Goals as goal
 
@@ -8,7 +7,7 @@ pub put_stmt-requires : goal.put_stmt-requires
 put_stmt-requires c =
     let pre = c.requires in
     let put-chain = c.put_chain-start in
-    (pre.0, rw put-chain.auto.0 (root-walk pre.1 put-chain.ensures), pre.2)
+    (pre.0, rw put-chain.auto.cells (root-walk pre.1 put-chain.ensures), pre.2)
 
 pub returns : goal.returns
 returns c =

@@ -1,14 +1,7 @@
 -- `whole::put_roots` meets its contract: what is still to be put in from root r on comes out as at the start. Assumes nothing.
-use mathlib.Core.Path.{◌≡◌, refl}
-use mathlib.Core.List.{List}
-use Prim.Native.Nat.{◌+◌, ◌-◌, ◌≤◌}
+use mathlib.Core.Path.{refl}
 use native.Mathlib.Omega.{arith}
-use borrow.Author.Rules.{rules}
-use lib.ListN.{length}
-use Rattle.model.specs.Program.{program_of}
-use Rattle.model.specs.Numbering.{Source}
-use Rattle.compiler.specs.Whole.{Told}
-use Rattle.compiler.proofs.Roots.{Rooting, rooting-start}
+use Rattle.compiler.proofs.Roots.{rooting-start}
 use Rattle.compiler.proofs.Assembly.{few-procedures, root-ready, root-further, roots-end}
 use Rattle.compiler.proofs.whole.put_roots.Goals as goal
 
@@ -84,7 +77,7 @@ loop-r-preserved c =
       omega (arith, loop-test.true),
       c.put_root-at.ensures.outs,
       λ cs T.
-          root-further pre.given T pre.apart (loop.invariant.2 cs T) loop-test.true skip.ensures idle-start.ensures c.put_root-at.auto.0 c.put_root-at.ensures.done,
+          root-further pre.given T pre.apart (loop.invariant.2 cs T) loop-test.true skip.ensures idle-start.ensures c.put_root-at.auto.cells c.put_root-at.ensures.done,
     )
 
 pub shape_of-cells : goal.shape_of-cells

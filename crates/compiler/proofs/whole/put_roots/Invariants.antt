@@ -1,15 +1,12 @@
 -- `whole::put_roots` meets its contract: what is still to be put in from root r on comes out as at the start. Assumes nothing.
-use mathlib.Core.Path.{◌≡◌, refl}
+use mathlib.Core.Path.{◌≡◌}
 use mathlib.Core.List.{List}
 use Prim.Native.Nat.{◌+◌, ◌-◌, ◌≤◌}
-use native.Mathlib.Omega.{arith}
-use borrow.Author.Rules.{rules}
 use lib.ListN.{length}
 use Rattle.model.specs.Program.{program_of}
 use Rattle.model.specs.Numbering.{Source}
 use Rattle.compiler.specs.Whole.{Told}
-use Rattle.compiler.proofs.Roots.{Rooting, rooting-start}
-use Rattle.compiler.proofs.Assembly.{few-procedures, root-ready, root-further, roots-end}
+use Rattle.compiler.proofs.Roots.{Rooting}
 use Rattle.compiler.proofs.whole.put_roots.Given as goal
 
 abbrev pub invariant-loop-r : goal.invariant-loop-r

@@ -1,6 +1,5 @@
 -- `whole::put_walk` meets its contract. Assumes nothing.
 use mathlib.Core.Path.{refl}
-use borrow.Author.Rules.{rules}
 use Rattle.compiler.proofs.Assembly.{walk-ready, all-put}
 use Rattle.compiler.proofs.whole.put_walk.Goals as goal
 
@@ -13,10 +12,10 @@ pub join_words-requires : goal.join_words-requires
 join_words-requires c =
     let pre = c.requires in
     let walk = c.put_roots-end in
-    record { program = _; before = _; ms = _; put = all-put pre.0 (rw pre.1 at (walk.ensures _ pre.2)) refl walk.auto.0 }
+    record { program = _; before = _; ms = _; put = all-put pre.0 (rw pre.1 at (walk.ensures _ pre.2)) refl walk.auto.cells }
 
 pub returns : goal.returns
 returns c =
     let pre = c.requires in
     let walk = c.put_roots-end in
-    c.join_words.ensures _ _ _ (all-put pre.0 (rw pre.1 at (walk.ensures _ pre.2)) refl walk.auto.0)
+    c.join_words.ensures _ _ _ (all-put pre.0 (rw pre.1 at (walk.ensures _ pre.2)) refl walk.auto.cells)

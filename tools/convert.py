@@ -22,11 +22,39 @@ def split_args(s):
     if cur: out.append(cur)
     return out
 
+CLAUSES={}
+def clauses_of(call):
+    if call not in CLAUSES:
+        ps=call.split('::'); top=os.path.dirname(crate); names_=[]
+        for f in [os.path.join(top,ps[0],'src',*ps[1:-1])+'.rt',os.path.join(top,ps[0],'src','lib.rt'),os.path.join(top,ps[0],'src','main.rt')]:
+            if os.path.exists(f):
+                m=re.search(r"fn "+re.escape(ps[-1])+r"[(<].*?\n\{",open(f).read(),re.S)
+                if m: names_=re.findall(r"^\s*ensures ([a-z_0-9]+) \{",m.group(0),re.M); break
+        CLAUSES[call]=names_
+    return CLAUSES[call]
+
 class Places:
     def __init__(self,of):
         self.at={}
         for (old,parent,st,call,_),arm,cl in zip(of['places'],of['arms'],of['clauses']):
             self.at[alike(old)]=(alike(parent) if parent else None,st,arm,cl,old)
+        self.call={alike(p[0]):p[3] for p in of['places']}
+        self.params=of['params']
+    def rest(self,f,rest):
+        call=self.call.get(f)
+        if not call or len(rest)<2: return rest
+        if rest[0] in ('auto','new') and rest[1] in ('0','1'):
+            k=0; i=1
+            while i<len(rest) and rest[i]=='1': k+=1; i+=1
+            ps=self.params.get(call)
+            if i<len(rest) and rest[i]=='0' and ps and k<len(ps): return [rest[0],ps[k]]+rest[i+1:]
+        if rest[0]=='ensures' and rest[1] in ('0','1'):
+            # the clauses were nested pairs
+            cs=clauses_of(call); k=0; i=1
+            while i<len(rest) and rest[i]=='1' and k<len(cs)-1: k+=1; i+=1
+            if cs and k==len(cs)-1: return ['ensures',cs[k]]+rest[i:]
+            if cs and i<len(rest) and rest[i]=='0': return ['ensures',cs[k]]+rest[i+1:]
+        return rest
     def parent(self,q): return self.at[q][0] if q in self.at else None
     def find(self,q,comp):
         """The place at or above q whose step is comp."""
@@ -35,15 +63,15 @@ class Places:
             q=self.parent(q)
         return None
 
-def turn_path(pl,q,comps):
+def turn_path(pl,q,comps,start=None):
     """comps after a state alias at place q; returns (new comps, place if it is a state)."""
     while comps and comps[0]=='before':
         q=pl.parent(q) if q else None; comps=comps[1:]
     if not comps: return [],q
-    f=pl.find(q,comps[0]) if q else None
+    f=(pl.find(q,comps[0]) if q else None) or (pl.find(start,comps[0]) if start else None)
     if f is None: return comps,None
     _,(os_,ns),arm,cl,_=pl.at[f]
-    rest=comps[1:]
+    rest=pl.rest(f,comps[1:])
     new=[ns]
     if arm:
         for nf,ostep,opath in arm[2]:
@@ -58,15 +86,17 @@ def turn_path(pl,q,comps):
     return new+rest,None
 
 def turn(pl,text,start,root='c'):
-    al={root:start}; steps={}
+    al={root:start}; steps={}; heres={}; ens={}; start0=start
     def f(m):
         ps=m.group(0).split('.')
+        if ps[0] in ens and len(ps)>1: return '.'.join([ps[0]]+pl.rest(ens[ps[0]],['ensures']+ps[1:])[1:])
+        if ps[0] in heres and len(ps)>1: return '.'.join([ps[0]]+pl.rest(heres[ps[0]],ps[1:]))
         if ps[0] in steps and len(ps)>1:
             q0,st=steps[ps[0]]
-            new,_=turn_path(pl,q0,[st]+ps[1:])
+            new,_=turn_path(pl,q0,[st]+ps[1:],start0)
             return '.'.join(['c']+new)
         if ps[0] in al:
-            new,q=turn_path(pl,al[ps[0]],ps[1:])
+            new,q=turn_path(pl,al[ps[0]],ps[1:],start0)
             return '.'.join(['c' if ps[0]==root else ps[0]]+new)
         return m.group(0)
     out='';pos=0
@@ -77,18 +107,24 @@ def turn(pl,text,start,root='c'):
         if m and m.start()<=p.start():
             v,path=m.group(1),m.group(2); ps=path.split('.')
             out+=text[pos:m.start()]
-            steps.pop(v,None)
+            steps.pop(v,None); heres.pop(v,None); ens.pop(v,None)
             if ps[0] in al:
                 q0=al[ps[0]]; qs=ps[1:]
                 while qs and qs[0]=='before': q0=pl.parent(q0) if q0 else None; qs=qs[1:]
-                new,q=turn_path(pl,al[ps[0]],ps[1:])
+                new,q=turn_path(pl,al[ps[0]],ps[1:],start0)
                 if not new: al[v]=q
                 else:
                     al.pop(v,None)
                     if len(qs)==1:
-                        f_=pl.find(q0,qs[0]) if q0 else None
-                        if f_ and (pl.at[f_][2] or pl.at[f_][3]): steps[v]=(q0,qs[0]); new=[pl.at[f_][2][0]] if pl.at[f_][2] else new
+                        f_=(pl.find(q0,qs[0]) if q0 else None) or (pl.find(start0,qs[0]) if start0 else None)
+                        if f_ and (pl.at[f_][2] or pl.at[f_][3]): steps[v]=(f_,qs[0]); new=[pl.at[f_][2][0]] if pl.at[f_][2] else new
+                        elif f_: heres[v]=f_
+                    elif len(qs)==2 and qs[1]=='ensures':
+                        f_=(pl.find(q0,qs[0]) if q0 else None) or (pl.find(start0,qs[0]) if start0 else None)
+                        if f_: ens[v]=f_
                 out+=f"let {v} = {'.'.join(['c' if ps[0]==root else ps[0]]+new)} in"
+            elif ps[0] in heres and ps[1:]==['ensures']: ens[v]=heres[ps[0]]; out+=m.group(0)
+            elif ps[0] in heres and len(ps)>1: out+=f"let {v} = {'.'.join([ps[0]]+pl.rest(heres[ps[0]],ps[1:]))} in"
             else: al.pop(v,None); out+=m.group(0)
             pos=m.end()
         else:
@@ -131,6 +167,17 @@ def tuple_record(b,name,fields):
         if ch==',' and d==0: parts.append(cur.strip()); cur=''
         else: cur+=ch
     if cur.strip(): parts.append(cur.strip())
+    while len(parts)<len(fields) and parts and re.match(r"^\(.*\)$",parts[-1],re.S):
+        inner=parts[-1][1:-1]; more=[];d=0;cur='';ok=True
+        for ch in inner:
+            if ch in ')]}': d-=1
+            if d<0: ok=False
+            if ch in '([{': d+=1
+            if ch==',' and d==0: more.append(cur.strip()); cur=''
+            else: cur+=ch
+        if cur.strip(): more.append(cur.strip())
+        if not ok or len(more)<2: break
+        parts=parts[:-1]+more
     if len(parts)!=len(fields): return wrap_pair(b,name,fields)
     sep=t[len(before):i]
     return before+sep+"record { "+"; ".join(f"{f} = {('('+p+')') if re.match('let |λ|elim ',p) else p}" for f,p in zip(fields,parts))+" }"

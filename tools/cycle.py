@@ -7,6 +7,37 @@ exec(src.split("for key,of in names.items():")[0])
 folder=os.path.join(crate,sys.argv[3]); mod=sys.argv[3].split('proofs/',1)[1].replace('/','.')
 cyc=mod
 files=[os.path.join(folder,'Proof.antt')]+sorted(glob.glob(os.path.join(folder,'Proof','*.antt')))
+def unalias(t,paths=False):
+    # `let x = c in` goes (and in a type each let of a path)
+    while True:
+        m=re.search(r"let (\S+) = (c"+(r"(?:\.[^\s(){}\[\],;:]+)?" if paths else '')+r") in[ ]?\s*",t)
+        if not m: return t
+        t=t[:m.start()]+re.sub(r"(?<![^\s(,\[])"+re.escape(m.group(1))+r"(?=[\s.),\]])",lambda _:m.group(2),t[m.end():])
+def rw_record(b,name,fs):
+    # `rw E (x, y)` and `rw E c.STEP.ensures` at its end, by clause
+    m=re.search(r"(?:=|\bin)\s*(rw (?:[^\s()]+|\((?:[^()]|\((?:[^()]|\([^()]*\))*\))*\)))\s+(c\.\S+\.ensures|\(.*\))\s*$",b,re.S)
+    if not m: return b
+    r,e=m.group(1),m.group(2)
+    if e.startswith('('):
+        parts=[];d=0;cur=''
+        for ch in e[1:-1]:
+            if ch in '([{': d+=1
+            if ch in ')]}': d-=1
+            if d<0: return b
+            if ch==',' and d==0: parts.append(cur.strip()); cur=''
+            else: cur+=ch
+        parts.append(cur.strip())
+    else: parts=[f"{e}.{f}" for f in fs]
+    if len(parts)!=len(fs): return b
+    q=lambda x: x if re.match(r"[^\s()]+$",x) else f"({x})"
+    return b[:m.start(1)]+"record { "+"; ".join(f"{f} = {r} {q(x)}" for f,x in zip(fs,parts))+" }"
+def clause_names(pl,t):
+    # u.0 of `let u = c.STEP.ensures in`
+    fields={st[1]:cl['fields'] for _,st,_,cl,_ in pl.at.values() if cl}
+    for m in list(re.finditer(r"let (\S+) = c\.([^\s(){}\[\],;:.]+)\.ensures in",t)):
+        u,st=m.groups(); fs=fields.get(st)
+        if fs and len(fs)>1: t=re.sub(r"(?<![^\s(,])"+re.escape(u)+r"\.(\d)(?!\d)",lambda k:u+'.'+(fs[int(k.group(1))] if int(k.group(1))<len(fs) else k.group(1)),t)
+    return t
 lts={k.split('.Lts-',1)[1]:v for k,v in names.items() if k.split('.',1)[-1].startswith(mod+'.Lts-')}
 many=len(lts)>1
 head=[];uses=[];bodies=[];goaluse=set();inv=[]
@@ -20,12 +51,14 @@ for f in files:
         if re.search(r"\.(Reads|Kinds|Tie|Statement|Code|Met)( as|\.|$)|\.Lts-|\.\+[^ ]*\.\{statement\}|borrow\.Fn\.|\.Proof\.|\.Proof as",u): continue
         if u not in uses: uses.append(u)
     # measures
-    for m in re.finditer(r"^\s*(?:pub |abbrev )*(\S+)-falls :.*\n\s*\S+-falls κs a = (.*)$",text,re.M):
+    for m in re.finditer(r"^\s*(?:pub |abbrev )*(\S+?)(?:-falls)? : Measures .*\n\s*\S+ κs a = (.*)$",text,re.M):
         inv.append((m.group(1),m.group(2),fn))
     if not of: 
         print('NO LTS',f); continue
     body=text.split('where\n',1)[1] if re.search(r"^module _.*where$",text,re.M) else text
     body=re.sub(r"^  ","",body,flags=re.M) if re.search(r"^module _.*where$",text,re.M) else body
+    body=re.sub(r"^(\S+) : \(t : ℕ\) → (?="+re.escape(alias)+r"\.Need-)",r"\1 : ",body,flags=re.M)
+    for nm in re.findall(r"^(\S+) : "+re.escape(alias)+r"\.Need-",body,re.M): body=re.sub(r"^"+re.escape(nm)+r" t ",nm+" ",body,flags=re.M)
     blocks=[b for b in re.split(r"\n\s*\n",body.strip('\n'))]
     pl=Places(of); needs={};at={}
     newplace={alike(p[0]):n for p,n in zip(of['places'],of['places_by_name'])}
@@ -65,40 +98,58 @@ for f in files:
         if helpers:
             t=re.sub(r"(?<![^\s(])("+'|'.join(map(re.escape,sorted(helpers,key=len,reverse=True)))+r") ([^\s(){}\[\],;]+)",f,t)
         return t
+    texts={}
+    def uncall(t):
+        # a helper's call at a state: its name alone, which a let binds
+        return re.sub(r"(?<![^\s(])("+'|'.join(map(re.escape,sorted(helpers,key=len,reverse=True)))+r") ([^\s(){}\[\],;]+)",lambda m:m.group(1)+" \x05",t).replace(' \x05','') if helpers else t
+    for b in blocks:
+        m=re.search(r"^(?:pub )?(\S+) : \((\S+) : "+alias+r"\.([^\s()]+)(?:[^()]|\([^()]*\))*\)\s*→\s*(.*?)\n((?:unfolding [^\n]*\n)?)\1 \2 =(.*)$",b,re.S|re.M)
+        if not m: continue
+        h,v,place,ty,unf,bd=m.groups(); q=alike(place)
+        f=lambda s: clause_names(pl,unalias(turn(pl,uncall(s),q,v)))
+        g=lambda s: re.sub(r"(?<![^\s(,])here\.(\d)",r"here_of.\1",re.sub(r"let here = here_of in\s*",'',s))
+        # turn writes the root as c
+        ty=unalias(f(ty),True); bd=g(f(bd))
+        if v!='c': ty,bd=[re.sub(r"(?<![^\s(])"+re.escape(v)+r"(?=\.)",'c',s) for s in (ty,bd)]
+        texts[h]=(re.sub(r"\s+",' ',ty.strip()),bd.strip(),unf)
+    def with_helpers(b,P):
+        need=set(); more=toks(b)
+        while True:
+            n=[h for h in texts if h in more and h not in need]
+            if not n: break
+            for h in n: need.add(h); more=more|toks(texts[h][1])
+        lets=''.join(f"\n    let {h} : {texts[h][0]} = {re.sub(chr(10)+' *',chr(10)+'        ',texts[h][1])} in" for h in texts if h in need)
+        k=f"\n{P} t c ="
+        if not lets: return b
+        a,z=b.split(k,1)
+        unf=' '.join(dict.fromkeys(w for h in texts if h in need for w in texts[h][2].split()[1:]))
+        if unf: a=re.sub(r"\n(unfolding .*)$",r"\n\1 "+unf,a) if 'unfolding' in a else a+"\nunfolding "+unf
+        return a+k+lets+"\n    "+z.strip()
     for b in blocks:
         m=re.search(r"^(?:pub )?(\S+) : "+alias+r"\.Need-(\S+)[^\n]*$",b,re.M)
         if m and m.group(1) in ren:
             name=m.group(1); n=ren[name]; N=n
-            b=b.replace(m.group(0),f"pub {N} : goal.{N}")
-            b=re.sub(r"^"+re.escape(name)+r" (\S+)( κs)? =",f"{N} t c =",b,flags=re.M)
-            k=re.search(r"^"+re.escape(N)+r" t c =\s*(.*)$",b,re.S|re.M)
+            P=pre+N
+            b=b.replace(m.group(0),f"pub {P} : goal.{P}")
+            b=re.sub(r"^"+re.escape(name)+r" (\S+)( κs)? =",f"{P} t c =",b,flags=re.M)
+            k=re.search(r"^"+re.escape(P)+r" t c =\s*(.*)$",b,re.S|re.M)
             if k and SIMPLE.match(k.group(1).strip()) and 'unfolding' not in b: continue
-            b=states(b,N,'c',at[n])
-            b=turn(pl,b,at[n])
+            b=uncall(b)
+            b=clause_names(pl,unalias(turn(pl,b,at[n])))
+
             b=re.sub(r"\(not-(?:true|false) (?:[^\s()]+|\([^()]*\)) (c\.if-not-[^\s(){}\[\],;:|]*\.(?:true|false))\)",r"\1",b)
             b=re.sub(r"\bnot-(?:true|false) (?:[^\s()]+|\([^()]*\)) (c\.if-not-[^\s(){}\[\],;:|]*\.(?:true|false))",r"\1",b)
             fs=asked.get(n)
-            if fs: b=tuple_record(b.replace(f"{N} t c =",f"{N} c ="),N,fs).replace(f"{N} c =",f"{N} t c =")
+            if fs: b=tuple_record(rw_record(b.replace(f"{P} t c =",f"{P} c ="),P,fs),P,fs).replace(f"{P} c =",f"{P} t c =")
+            b=with_helpers(b,P)
             bodies.append(b); continue
-        m=re.search(r"^(?:pub )?(\S+) : \((\S+) : "+alias+r"\.([^\s()]+)(?:[^()]|\([^()]*\))*\)",b,re.M)
-        if m:
-            h,v,place=m.groups(); q=alike(place)
-            goaluse.add(newplace[q])
-            b=b.replace(m.group(0),f"{h} : (t : ℕ) ({v} : {newplace[q]} t)")
-            b=re.sub(r"^"+re.escape(h)+r" (\S+) =",lambda k:f"{h} t {k.group(1)} =",b,flags=re.M)
-            k=re.search(r"^"+re.escape(h)+r" t (\S+) =",b,re.M)
-            b=states(b,None,v,q)
-            b=turn(pl,b,q,v)
-            # turn writes the root as c
-            if v!='c': b=re.sub(r"(?<![^\s(\x01])c(?=\.)",v,b)
-            b=b.replace('\x01','').replace('\x02','')
-            bodies.append(b); continue
-        if re.search(r"lts\.(Claims|Closed)|^abbrev \S+-(here|below|falls)|[-_]spec :",b,re.M) or (alias and re.search(re.escape(alias)+r"\.(Claims|Closed)",b)): continue
+        if any(re.search(r"^(?:pub )?"+re.escape(h)+r" : ",b,re.M) for h in texts): continue
+        if re.search(r"lts\.(Claims|Closed)|^abbrev \S+-(here|below|falls|at) |: Measures |[-_]spec :",b,re.M) or (alias and re.search(re.escape(alias)+r"\.(Claims|Closed)",b)): continue
         bodies.append(b)
 def measured(b):
     al=['c.requires']+re.findall(r"let (\S+) = \S+\.requires in",b)
-    for r in re.findall(r"^\S+ t (\S+) =",b,re.M): al.append(r+'.requires')
-    for x in al:
+    for r in re.findall(r"^\S+ t (\S+) =",b,re.M)+re.findall(r"let (\S+) = c in",b): al.append(r+'.requires')
+    for x in dict.fromkeys(al):
         x=re.escape(x)
         b=re.sub(r"(?<![^\s(,])"+x+r"\.1(?!\d)",lambda m:m.group(0)[:-2],b)
         b=re.sub(r"\(arith, "+x+r"\.0\)","arith",b)
@@ -106,7 +157,15 @@ def measured(b):
         b=re.sub(r", "+x+r"\.0(?=[,)])","",b)
     return b
 bodies=[measured(b) for b in bodies]
-keep=uses
+byu={}
+for u in uses:
+    m=re.match(r"use (\S+?)\.\{(.*)\}$",u)
+    if m:
+        l=byu.setdefault(m.group(1),[])
+        for x in m.group(2).split(', '):
+            if x not in l: l.append(x)
+    else: byu.setdefault(u,None)
+keep=[k if v is None else f"use {k}.{{{', '.join(v)}}}" for k,v in byu.items()]
 g=f"use Rattle.{cname}.proofs.{mod}.Goals as goal"
 out=head+keep+[g]+([f"use Rattle.{cname}.proofs.{mod}.Goals.{{{', '.join(sorted(goaluse))}}}"] if goaluse else [])+['']
 open(os.path.join(folder,'Answers.antt'),'w').write('\n'.join(out)+'\n'+'\n\n'.join(bodies).rstrip()+'\n')

@@ -26,6 +26,11 @@ for it in range(10):
             elif [x for x in fields if alike(x)==alike(old)]: new=[x for x in fields if alike(x)==alike(old)][0]
             elif near and len(near.group(1).split(', '))==1: new=near.group(1)[1:]
             if new: edits.setdefault(f,[]).append((row,col,'.'+old,'.'+new))
+        elif re.search(r"^  has no field `(\d+)`$",'\n'.join(lines[i+1:i+4]),re.M):
+            blk='\n'.join(lines[i+1:i+6])
+            old=re.search(r"has no field `(\d+)`",blk).group(1)
+            fields=re.findall(r"`([^`]*)`",re.search(r"its fields are (.*)",blk).group(1)) if 'its fields are' in blk else []
+            if int(old)<len(fields): edits.setdefault(f,[]).append((row,col,'.'+old,'.'+fields[int(old)]))
         elif 'record {value :' in msg+more and '(found)' in msg+' '+' '.join(lines[i+1:i+5]):
             edits.setdefault(f,[]).append((row,col,None,'.value'))
     n=0

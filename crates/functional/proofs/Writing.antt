@@ -18,7 +18,7 @@ use Rattle.program.proofs.Children.{Inner, assign-elem-read, seq-read, par-read,
 use Rattle.program.specs.Ends.{past}
 use Rattle.model.specs.Program.{node_count}
 use Rattle.compiler.specs.Nodes.{StmtNode}
-use Rattle.functional.specs.Sets.{has, Tells}
+use Rattle.functional.specs.Sets.{Tells}
 use Rattle.functional.specs.Walk.{plainly, plain_at, Writes}
 use Rattle.functional.proofs.Bits.{has-none, has-or}
 

@@ -9,7 +9,7 @@ use crate::sets::Wires;
 use compiler::walk::put;
 
 // A kind, and the inputs of each variable's cell.
-#[derive(Drop)]
+#[derive(Clone, Copy)]
 pub struct Row {
     pub kind: u8,
     pub a: Wires,

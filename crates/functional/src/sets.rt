@@ -5,7 +5,7 @@ ghost use Rattle.model.specs.Functional.{many, placed};
 ghost use Rattle.functional.specs.Sets.{has, wired, Agrees, Tells};
 
 // The wires that bring a statement the words of the variables.
-#[derive(Drop)]
+#[derive(Clone, Copy)]
 pub struct Wires {
     pub of: [u16; 16],
 }

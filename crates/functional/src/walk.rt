@@ -16,7 +16,7 @@ use compiler::walk::{Word, put, put_own, put_word};
 use model::Node;
 
 // Where the walk is: the wire that starts a statement or has just finished one, the next cell, and the wires of the words.
-#[derive(Drop)]
+#[derive(Clone, Copy)]
 pub struct Place {
     pub wire: u16,
     pub cell: u16,

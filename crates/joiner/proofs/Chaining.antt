@@ -41,7 +41,7 @@ use Rattle.joiner.specs.declared.parts.Bounds.{Bounds}
 use Rattle.joiner.specs.Cuts.{part_count, part_of, parts_from, Cut}
 use Rattle.joiner.specs.Stands.{Compiled, Placeable, PartsReady}
 use Rattle.joiner.proofs.Cuts.{no-parts}
-use Rattle.joiner.proofs.Regions.{one-delays, one-walk, one-finish, delay-count}
+use Rattle.joiner.proofs.Regions.{one-delays, one-walk, one-finish}
 use Rattle.joiner.proofs.Walking.{no-exits}
 
 -- What is known of a part -------------------------------------------------------------------------------------------------------------------

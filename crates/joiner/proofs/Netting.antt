@@ -10,7 +10,7 @@ use Rattle.model.specs.Program.{Code, Program, roots}
 use Rattle.model.specs.Numbering.{Source, delay_count, walk_count, calls_of, memory_at}
 use Rattle.model.specs.PartCalls.{Part, part_at, parts_in}
 use Rattle.model.specs.PartPromises.{whole_statement, joined_program}
-use Rattle.laws.specs.Numbering.Count.{nodes, fits}
+use Rattle.laws.specs.Numbering.Count.{fits}
 use Rattle.laws.specs.Numbering.Parts.{net-length}
 use Rattle.compiler.specs.declared.walk.Place.{Place}
 use Rattle.compiler.specs.declared.whole.Clocks.{Clocks}

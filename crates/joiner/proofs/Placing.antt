@@ -6,7 +6,6 @@ use native.Mathlib.Omega.{arith}
 use lib.ListN.{length}
 use lib.Seq.{sets}
 use Rattle.model.specs.Program.{Code}
-use Rattle.model.specs.Numbering.{delays, walk}
 use Rattle.model.specs.NetlistFile.{cell_bytes, cells_at, in_file, count_of, finish_of}
 use Rattle.laws.specs.NetlistFile.Passed.{file-passed, count-range}
 use Rattle.netlist.specs.declared.cells.Layout.TheVariants.{InFile}

@@ -14,7 +14,7 @@ use model::sizes::CELL;
 use netlist::cells::Layout;
 
 // Where a part stands: its own first memory, and in the whole the first memory, the part's start, its first delay cell and its first walk cell.
-#[derive(Drop)]
+#[derive(Clone, Copy)]
 pub struct Stand {
     pub own: u16,
     pub memory: u16,
@@ -24,7 +24,7 @@ pub struct Stand {
 }
 
 // What is known of a part's own netlist: its first memory, and how many delay cells and walk cells it has.
-#[derive(Drop)]
+#[derive(Clone, Copy)]
 pub struct Own {
     pub memory: u16,
     pub delays: u16,
@@ -32,7 +32,7 @@ pub struct Own {
 }
 
 // A place in the whole: a start wire, the next delay cell and the next walk cell.
-#[derive(Drop)]
+#[derive(Clone, Copy)]
 pub struct Spot {
     pub wire: u16,
     pub delay: u16,

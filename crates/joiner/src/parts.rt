@@ -6,7 +6,7 @@ ghost use Rattle.joiner.specs.Cuts.{part_count, Cut, with_pulse};
 use model::Options;
 
 // Where a part's program ends and its file begins, and where its file ends.
-#[derive(Drop)]
+#[derive(Clone, Copy)]
 pub struct Bounds {
     pub middle: usize,
     pub end: usize,

@@ -254,8 +254,8 @@ module _ (F : Format) (net : Netlist) (ordered : Ordered net.cells) (starts : Bo
         (get16-same x y i (same i (omega arith) (omega arith)) (same (i + 1) (omega arith) (omega arith)) ∙ back-now F kept r n k c.few fits ∙ shown-before k c.few)
         c.from (omega arith)))
 
-    pub taken_back : y ≡ s
-    taken_back =
+    pub taken_back_lem : y ≡ s
+    taken_back_lem =
         ext_get_or 0 y s (ap length e ∙ length-put32 (paste x (base F n) kept 512) 0 (instant_of r - 1) ∙ pasted-long)
         (λ j l.
         by_le 8 j
@@ -285,4 +285,4 @@ pub taken-back-by : (F : Format) (net : Netlist) → Ordered net.cells → (star
     → (r kept y : List ℕ) → r ≡ valued F net starts s → Kept F n s kept → Roomy kept → Bytes s → Bytes y
     → y ≡ put32 (paste (up_to (taken_back F kept) n r) (base F n) kept 512) 0 (instant_of r - 1) → y ≡ s
 taken-back-by F net ordered starts s n e room r kept y a has roomy bs by q =
-    taken_back F net ordered starts s (rw e room) kept y (rw e has) roomy bs by (rw (a, ← e) at q)
+    taken_back_lem F net ordered starts s (rw e room) kept y (rw e has) roomy bs by (rw (a, ← e) at q)

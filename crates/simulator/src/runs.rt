@@ -24,7 +24,7 @@ const FEW: usize = 1024;
 const WHOLE: usize = STATE_HEADER + FEW * COMPACT_CELL + ELEMENTS;
 
 // How a continuing went: whether 26 ended it, and how many instants it evaluated.
-#[derive(Drop)]
+#[derive(Clone, Copy)]
 pub struct Went {
     pub checked: Checked,
     pub count: u32,

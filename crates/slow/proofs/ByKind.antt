@@ -2,19 +2,18 @@
 use mathlib.Core.Bool.{Bool, true, false, not, ◌&&◌, ◌||◌}
 use mathlib.Core.List.{List}
 use mathlib.Core.Path.{◌≡◌, refl, sym, ◌∙◌, ap}
-use Prim.Native.Nat.{ℕ, ◌+◌, ◌-◌, ◌*◌, ◌/◌, ◌%◌, ◌<◌, ◌≤◌}
+use Prim.Native.Nat.{ℕ, ◌+◌, ◌-◌, ◌*◌, ◌<◌, ◌≤◌}
 use native.Mathlib.Omega.{arith}
 use native.Mathlib.Decide.{ℕ_discrete}
-use lib.Dec.{eqb, leb, ltb}
+use lib.Dec.{eqb, leb}
 use lib.ListN.{length, get_or, get_or-eq_default}
 use borrow.Author.Tests.{eq-eqb, ne_eqb, le-leb, lt-leb, lt-ltb, le-ltb}
 use Rattle.model.specs.declared.Cell.{Cell}
-use Rattle.model.specs.declared.Merge.{Merge}
 use Rattle.model.specs.Word.{pick, bit, is_zero, operate, index, put16}
-use Rattle.model.specs.Circuit.{high, Shape, cell_table, shape, k_constant, k_complement, k_operator, k_start, k_ground, k_delay, k_or, k_when_true, k_when_false, k_merge, k_return, k_memory, k_gated, k_array, k_address, k_read, k_latch, k_unknown}
+use Rattle.model.specs.Circuit.{high, Shape, cell_table, shape, k_ground, k_array, k_address, k_unknown}
 use Rattle.model.specs.Gates.{past}
 use Rattle.laws.specs.Circuit.Shapes.{operator-shape, apart}
-use Rattle.slow.specs.Ring.{slot, word_in, element_in, held_ring, held_of, held_in, merge_in, merged_in, fallen_in, shown_in, time_at, taken_in, Leaves}
+use Rattle.slow.specs.Ring.{slot, word_in, element_in, held_ring, held_of, held_in, merged_in, fallen_in, shown_in, time_at, taken_in, Leaves}
 use Rattle.slow.proofs.Rings.{put-element, put_same, leaves-more}
 
 -- Parts, by their tests ------------------------------------------------------------------------------------------------------------------------

@@ -1,7 +1,7 @@
 -- The call: which refusal comes first, what a run that is not refused has, and what the call tells. Assumes nothing.
 use mathlib.Core.List.{List, [], ◌∷◌, ◌++◌}
 use mathlib.Core.Path.{◌≡◌, refl, sym, ◌∙◌, ap}
-use Prim.Native.Nat.{ℕ, ◌+◌, ◌-◌, ◌*◌, ◌<◌, ◌≤◌}
+use Prim.Native.Nat.{ℕ, ◌-◌, ◌*◌, ◌<◌, ◌≤◌}
 use native.Mathlib.Omega.{arith}
 use borrow.Author.Tests.{lt-ltb, le-ltb, ltb-false}
 use lib.Dec.{ltb}
@@ -9,20 +9,18 @@ use lib.ListN.{length, drop, replicate, length-append, length-replicate, length-
 use lib.Seq.{sets, drop-append_seam}
 use Rattle.model.specs.declared.Refusal.{Refusal}
 use Rattle.model.specs.declared.Options.{Options}
-use Rattle.model.specs.declared.Answer.{Answer}
-use Rattle.model.specs.declared.Cell.{Cell}
 use Rattle.model.specs.declared.Checked.{Checked}
 use Rattle.model.specs.declared.Checked.TheVariants.{Accepted, Refused}
 use Rattle.model.specs.Refusals.{refuse, first}
-use Rattle.model.specs.Program.{Program, program_of, time_in, roots}
+use Rattle.model.specs.Program.{Program, program_of, roots}
 use Rattle.model.specs.ProgramChecks.{program_with, check_of}
 use Rattle.model.specs.Numbering.{netlist, finish, data_at}
 use Rattle.model.specs.Circuit.{memories, level}
 use Rattle.model.specs.Word.{Bytes}
 use Rattle.model.specs.NetlistFile.{pulse_wrong}
 use Rattle.model.specs.TimeTables.{given_check}
-use Rattle.model.specs.Calls.{short, check_call, refused_answer, overwrite, word_at}
-use Rattle.model.specs.Gates.{slow_values, end_at, slow_answer, value_bytes, slow_size, with_pulse, slow_program, slow_run_checks, slow_running, slow_run_call}
+use Rattle.model.specs.Calls.{short, check_call, refused_answer, overwrite}
+use Rattle.model.specs.Gates.{end_at, slow_answer, value_bytes, slow_size, with_pulse, slow_program, slow_run_checks, slow_running, slow_run_call}
 use Rattle.laws.specs.Refusals.Laws.{all-accept, refuse-unless, first_one, first-take, first-drop, accept-take}
 use Rattle.laws.specs.Program.Fit.{EveryRoot, Numberable}
 use Rattle.laws.specs.Program.Size.{few-nodes, program-numberable}

@@ -8,7 +8,6 @@ use lib.Dec.{eqb}
 use lib.ListN.{length}
 use Rattle.model.specs.declared.Cell.{Cell}
 use Rattle.model.specs.declared.Outcome.TheVariants.{Ended, Open}
-use Rattle.model.specs.declared.Answer.{Answer}
 use Rattle.model.specs.Word.{pick, index, element_word, bytes16}
 use Rattle.laws.specs.Refusals.Laws.{by_bool}
 use Rattle.model.specs.Circuit.{level, Values, element, memory_words}

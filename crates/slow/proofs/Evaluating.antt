@@ -1,24 +1,22 @@
 -- A cell more: what is written beside a cell's value leaves what is kept, and with its value one cell more has been evaluated. Assumes nothing.
-use mathlib.Core.Bool.{Bool, true, false}
+use mathlib.Core.Bool.{true}
 use mathlib.Core.List.{List}
 use mathlib.Core.Logic.{◌⊎◌, inl, inr, ⊎_elim}
-use mathlib.Core.Path.{◌≡◌, refl, sym, ap, subst, ◌∙◌}
-use Prim.Native.Nat.{ℕ, zero, suc, ◌+◌, ◌-◌, ◌*◌, ◌<◌, ◌≤◌}
+use mathlib.Core.Path.{◌≡◌, sym, ap, subst, ◌∙◌}
+use Prim.Native.Nat.{ℕ, ◌+◌, ◌*◌, ◌<◌, ◌≤◌}
 use native.Mathlib.Omega.{arith}
-use lib.Dec.{eqb}
 use lib.ListN.{length, get_or}
 use borrow.Author.Tests.{eqb-true}
 use Rattle.model.specs.declared.Cell.{Cell}
 use Rattle.model.specs.Word.{put16}
 use Rattle.model.specs.Program.{time_in}
 use Rattle.model.specs.Circuit.{cell_at, array_at, Values, element, merges, start_word, shape, cell_table}
-use Rattle.model.specs.NetlistFile.{cell_from}
 use Rattle.model.specs.Calls.{word_at}
 use Rattle.model.specs.Gates.{slow_size}
 use Rattle.laws.specs.Circuit.Ordered.{Looks, kinds, Ordered}
 use Rattle.laws.specs.Circuit.Shapes.{by-merge}
 use Rattle.laws.specs.Circuit.Gates.{slow-solves}
-use Rattle.slow.specs.Ring.{net_of, slot, word_in, held_ring, shown_in, time_at, taken_in, read_word, Leaves, Beside, Owned, Prepared, values_of, Kept, KeptIn}
+use Rattle.slow.specs.Ring.{net_of, slot, word_in, held_ring, shown_in, time_at, taken_in, read_word, Leaves, Beside, Owned, Prepared, values_of, KeptIn}
 use Rattle.slow.proofs.Cells.{net-length, net-cell}
 use Rattle.slow.proofs.Rings.{Touches, Changes, put-leaves, put_same, leaves-both, leaves-more, seen-still, kept_more}
 use Rattle.slow.proofs.Showing.{shown-right, taken_is, read_right, holds-right}

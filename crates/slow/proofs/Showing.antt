@@ -1,9 +1,9 @@
 -- What a cell shows by the bytes of its rings is what it is to show, and so are the elements and what a merge holds. Assumes nothing.
 use mathlib.Core.Bool.{Bool, true, false, not, ◌&&◌, ◌||◌}
 use mathlib.Core.List.{List}
-use mathlib.Core.Logic.{◌⊎◌, ⊎_elim}
-use mathlib.Core.Path.{◌≡◌, refl, sym, ap, ap₂, subst, ◌∙◌}
-use Prim.Native.Nat.{ℕ, zero, suc, ◌+◌, ◌-◌, ◌*◌, ◌%◌, ◌<◌, ◌≤◌}
+use mathlib.Core.Logic.{⊎_elim}
+use mathlib.Core.Path.{◌≡◌, refl, sym, ap, ap₂, ◌∙◌}
+use Prim.Native.Nat.{ℕ, zero, suc, ◌+◌, ◌-◌, ◌*◌, ◌<◌, ◌≤◌}
 use native.Mathlib.Nat.{eq-or-lt_of_le, sub-zero}
 use native.Mathlib.Omega.{arith}
 use lib.Dec.{eqb, leb, ltb, leb-zero}
@@ -12,9 +12,9 @@ use borrow.Author.Tests.{leb-true, eqb-true, eq-eqb, ne_eqb}
 use Rattle.model.specs.declared.Cell.{Cell}
 use Rattle.model.specs.declared.Merge.{Merge}
 use Rattle.model.specs.declared.Merged.{Merged}
-use Rattle.model.specs.Word.{pick, bit, is_zero, operate, index, element_of, element_word}
+use Rattle.model.specs.Word.{pick, bit, is_zero, operate, index}
 use Rattle.model.specs.Program.{time_in}
-use Rattle.model.specs.Circuit.{cell_at, array_at, high, level, falls, Sig, Values, Elements, pulses, remaining_before, remaining_step, memory, latch, element, delayed, Step, merged, merged_before, merge_step, return_step, held_before, merges, step_of, start_word, Shape, shape, cell_table, equation}
+use Rattle.model.specs.Circuit.{cell_at, high, level, falls, Values, Elements, pulses, remaining_before, remaining_step, memory, latch, element, delayed, Step, merged, merged_before, merge_step, return_step, held_before, merges, step_of, start_word, Shape, shape, cell_table, equation}
 use Rattle.model.specs.Circuit.{k_constant, k_complement, k_operator, k_start, k_ground, k_delay, k_or, k_when_true, k_when_false, k_merge, k_return, k_memory, k_gated, k_array, k_address, k_read, k_latch, k_unknown}
 use Rattle.model.specs.Gates.{past, gate, first_start, slow_cell}
 use Rattle.laws.specs.Refusals.Laws.{by_bool, not-both}

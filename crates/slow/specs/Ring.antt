@@ -2,13 +2,13 @@
 -- cell holds: of a merge its held bits, of a read the elements that it has read. What cells show by these bytes; and what the rings hold at instant t, when
 -- the cells below k have been evaluated.
 -- Assumes nothing: definitions.
-use Rattle.std.specs.Prelude.{Bool, true, false, not, ◌&&◌, ◌||◌, List, ◌≡◌, ℕ, zero, suc, ◌+◌, ◌-◌, ◌*◌, ◌/◌, ◌%◌, ◌<◌, ◌≤◌, eqb, ltb, length, get_or, take}
+use Rattle.std.specs.Prelude.{Bool, true, false, not, ◌&&◌, ◌||◌, List, ◌≡◌, ℕ, suc, ◌+◌, ◌-◌, ◌*◌, ◌/◌, ◌%◌, ◌<◌, ◌≤◌, eqb, ltb, length}
 use Rattle.model.specs.declared.Cell.{Cell}
 use Rattle.model.specs.declared.Merge.{Merge}
 use Rattle.model.specs.declared.Merged.{Merged}
-use Rattle.model.specs.Word.{pick, bit, is_zero, operate, index, element_of, element_word, get16}
+use Rattle.model.specs.Word.{pick, bit, is_zero, operate, index, element_of, get16}
 use Rattle.model.specs.Program.{time_in}
-use Rattle.model.specs.Circuit.{cell_at, array_at, high, level, Values, element, held_before, merges, step_of, memories, Shape, shape, k_constant, k_complement, k_operator, k_start, k_ground, k_delay, k_or, k_when_true, k_when_false, k_merge, k_return, k_memory, k_gated, k_array, k_address, k_read, k_latch, k_unknown}
+use Rattle.model.specs.Circuit.{cell_at, array_at, high, level, Values, element, held_before, merges, step_of, memories, Shape, k_constant, k_complement, k_operator, k_start, k_ground, k_delay, k_or, k_when_true, k_when_false, k_merge, k_return, k_memory, k_gated, k_array, k_address, k_read, k_latch, k_unknown}
 use Rattle.model.specs.NetlistFile.{cell_from, cells_at, in_list}
 use Rattle.model.specs.Calls.{word_at}
 use Rattle.model.specs.Gates.{past, slow_size, slow_values}

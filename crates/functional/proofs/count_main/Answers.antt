@@ -1,0 +1,11 @@
+-- `count_main` meets its contract. Assumes nothing.
+use mathlib.Core.Path.{ap}
+use Prim.Native.Nat.{◌+◌}
+use native.Mathlib.Omega.{arith}
+use Rattle.functional.proofs.count_main.Goals as goal
+
+pub count_stmt-requires : goal.count_stmt-requires
+count_stmt-requires c = let M = c.requires in (M.laid, M.basic, M.few)
+
+pub returns : goal.returns
+returns c = record { cells = ap (◌+◌ 43) c.count_stmt.ensures; few = omega (arith, c.count_stmt.ensures, c.requires.few) }

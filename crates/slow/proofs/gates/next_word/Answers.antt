@@ -1,0 +1,136 @@
+-- `next_word` meets its contract. Assumes nothing.
+use native.Mathlib.Omega.{arith}
+use mathlib.Core.Path.{sym, ◌∙◌}
+use Rattle.slow.specs.Ring.{time_at}
+use Rattle.slow.proofs.ByKind.{no-operator-low, no-operator-high, next-constant, next_start, next-delay, next-or, next-when-true, next-when-false, next-merge, next-return, next-memory, next-latch, next-gate-open, next-gate-shut, next-operator, next-read, next-still}
+use Rattle.slow.proofs.gates.next_word.Goals as goal
+
+pub returns-then-kind-eq1 : goal.returns-then-kind-eq1
+returns-then-kind-eq1 c = sym (next-constant _ _ _ _ _ _ _ c.if-kind-eq1.true)
+
+pub past-v-requires : goal.past-v-requires
+past-v-requires c =
+    let pre = c.requires in
+    let la = pre.2 c.if-kind-eq1.false in
+    (omega (arith, la, pre.0), omega (arith, la, pre.4))
+
+pub returns-then-kind-eq34 : goal.returns-then-kind-eq34
+returns-then-kind-eq34 c =
+    let args = c.args in
+    cc (next-delay args.work.now args.n args.k args.c args.t (time_at args.times.now args.ors args.k args.c.kind) args.first c.if-kind-eq34.true)
+
+pub memory_word-requires : goal.memory_word-requires
+memory_word-requires c =
+    let pre = c.requires in
+    (pre.0, pre.1, pre.2 c.if-kind-eq1.false, pre.3, pre.4)
+
+pub returns-then-kind-eq40 : goal.returns-then-kind-eq40
+returns-then-kind-eq40 c = c.memory_word.ensures ∙ sym (next-memory _ _ _ _ _ _ _ c.if-kind-eq40.true)
+
+pub latch_word-requires : goal.latch_word-requires
+latch_word-requires c =
+    let pre = c.requires in
+    (pre.0, pre.1, pre.2 c.if-kind-eq1.false, pre.3, pre.4)
+
+pub returns-then-kind-eq45 : goal.returns-then-kind-eq45
+returns-then-kind-eq45 c = c.latch_word.ensures ∙ sym (next-latch _ _ _ _ _ _ _ c.if-kind-eq45.true)
+
+pub returns-then-kind-eq44 : goal.returns-then-kind-eq44
+returns-then-kind-eq44 c =
+    let args = c.args in
+    cc (next-read args.work.now args.n args.k args.c args.t (time_at args.times.now args.ors args.k args.c.kind) args.first c.if-kind-eq44.true)
+
+pub word_at-x-requires : goal.word_at-x-requires
+word_at-x-requires c =
+    let pre = c.requires in
+    let la = pre.2 c.if-kind-eq1.false in
+    (omega (arith, la, pre.0), omega (arith, la, pre.4))
+
+pub past-p-requires : goal.past-p-requires
+past-p-requires c =
+    let pre = c.requires in
+    let la = pre.2 c.if-kind-eq1.false in
+    (omega (arith, la, pre.0), omega (arith, la, pre.4))
+
+pub returns-in-32 : goal.returns-in-32
+returns-in-32 c =
+    let args = c.args in
+    cc (next_start args.work.now args.n args.k args.c args.t (time_at args.times.now args.ors args.k args.c.kind) args.first c.in-32.is)
+
+pub returns-in-35 : goal.returns-in-35
+returns-in-35 c =
+    let args = c.args in
+    cc (next-or args.work.now args.n args.k args.c args.t (time_at args.times.now args.ors args.k args.c.kind) args.first c.in-35.is)
+
+pub returns-in-36 : goal.returns-in-36
+returns-in-36 c =
+    let args = c.args in
+    cc (next-when-true args.work.now args.n args.k args.c args.t (time_at args.times.now args.ors args.k args.c.kind) args.first c.in-36.is)
+
+pub returns-in-37 : goal.returns-in-37
+returns-in-37 c =
+    let args = c.args in
+    cc (next-when-false args.work.now args.n args.k args.c args.t (time_at args.times.now args.ors args.k args.c.kind) args.first c.in-37.is)
+
+pub returns-in-38 : goal.returns-in-38
+returns-in-38 c =
+    let args = c.args in
+    cc (next-merge args.work.now args.n args.k args.c args.t (time_at args.times.now args.ors args.k args.c.kind) args.first c.in-38.is)
+
+pub returns-in-39 : goal.returns-in-39
+returns-in-39 c =
+    let args = c.args in
+    cc (next-return args.work.now args.n args.k args.c args.t (time_at args.times.now args.ors args.k args.c.kind) args.first c.in-39.is)
+
+pub returns-then-x-eq1 : goal.returns-then-x-eq1
+returns-then-x-eq1 c = c.word_at-y.ensures ∙ sym (next-gate-open _ _ _ _ _ _ _ c.in-41.is (sym c.word_at-x.ensures ∙ c.if-x-eq1.true))
+
+pub returns-else-x-eq1 : goal.returns-else-x-eq1
+returns-else-x-eq1 c = sym (next-gate-shut _ _ _ _ _ _ _ c.in-41.is (λ e. c.if-x-eq1.false (c.word_at-x.ensures ∙ e)))
+
+pub returns-in-3-to-9 : goal.returns-in-3-to-9
+returns-in-3-to-9 c =
+    let args = c.args in
+    cc (next-operator args.work.now args.n args.k args.c args.t (time_at args.times.now args.ors args.k args.c.kind) args.first (omega arith) (omega arith))
+
+pub returns-in_default : goal.returns-in_default
+returns-in_default c =
+    let match = c.in_default.in_default-own in
+    sym
+    (next-still _ _ _ _ _ _ _
+    (record {
+      operator = no-operator-low _ c.in_default.if-kind-lt3-own.true;
+      constant = c.if-kind-eq1.false;
+      delay = c.if-kind-eq34.false;
+      start = match.rest.0.0.0.0.0.0.1;
+      join = match.rest.0.0.0.0.0.1;
+      when_true = match.rest.0.0.0.0.1;
+      when_false = match.rest.0.0.0.1;
+      merge = match.rest.0.0.1;
+      return = match.rest.0.1;
+      memory = c.if-kind-eq40.false;
+      gated = match.rest.1;
+      read = c.if-kind-eq44.false;
+      latch = c.if-kind-eq45.false;
+    }))
+
+pub returns-in_default-2 : goal.returns-in_default-2
+returns-in_default-2 c =
+    let match = c.in_default.in_default-own in
+    sym
+    (next-still _ _ _ _ _ _ _
+    (record {
+      operator = no-operator-high _ c.in_default.if-kind-lt10-own.false;
+      constant = c.if-kind-eq1.false;
+      delay = c.if-kind-eq34.false;
+      start = match.rest.0.0.0.0.0.0.1;
+      join = match.rest.0.0.0.0.0.1;
+      when_true = match.rest.0.0.0.0.1;
+      when_false = match.rest.0.0.0.1;
+      merge = match.rest.0.0.1;
+      return = match.rest.0.1;
+      memory = c.if-kind-eq40.false;
+      gated = match.rest.1;
+      read = c.if-kind-eq44.false;
+      latch = c.if-kind-eq45.false;
+    }))

@@ -1,0 +1,67 @@
+-- `run` meets its contract. Assumes nothing.
+use Prim.Native.Nat.{ℕ}
+use native.Mathlib.Omega.{arith}
+use mathlib.Core.List.{List}
+use mathlib.Core.Path.{◌≡◌, sym, ap, ◌∙◌}
+use borrow.Author.Tests.{eq-eqb, ne_eqb}
+use Rattle.model.specs.Circuit.{level}
+use Rattle.model.specs.Calls.{overwrite}
+use Rattle.model.specs.Gates.{end_at, slow_answer, value_bytes}
+use Rattle.word.proofs.Puts.{overwrite-sets}
+use Rattle.slow.specs.Ring.{net_of, word_in, values_of, KeptIn}
+use Rattle.slow.proofs.Ends.{end-within, answer-ended, answer-open, kept-words, kept-bytes, bytes-length}
+use Rattle.slow.proofs.run.Goals as goal
+
+pub overflow_add-result : goal.overflow_add-result
+overflow_add-result c =
+    let args = c.args in
+    let f = level (values_of args.cells.now args.n args.ors args.times.now args.words.now) args.finish in
+    omega (arith, c.run-t.ensures.instant, end-within f 0 args.budget, c.requires.2)
+
+pub overflow_add-result-2 : goal.overflow_add-result-2
+overflow_add-result-2 c =
+    let args = c.args in
+    let f = level (values_of args.cells.now args.n args.ors args.times.now args.words.now) args.finish in
+    omega (arith, c.run-t.ensures.instant, end-within f 0 args.budget, c.requires.2)
+
+pub returns-then-word_at-eq1 : goal.returns-then-word_at-eq1
+returns-then-word_at-eq1 c =
+    let args = c.args in
+    let pre = c.requires in
+    let r = c.run-t in
+    let cells = args.cells.now in
+    let n = args.n in
+    let W = values_of cells n args.ors args.times.now args.words.now in
+    let t = r.result in
+    let s = r.new.work in
+    let T = end_at (level W args.finish) 0 args.budget in
+    let kept : KeptIn cells n args.ors args.times.now args.words.now t n s = c.run-t.ensures.kept in
+    let now : word_in s args.finish t ≡ W args.finish t = kept.seen.cells-now args.finish pre.1 in
+    let words = c.words_in-last.ensures ∙ kept-words cells n args.ors args.times.now args.words.now s t kept in
+    let bytes = kept-bytes cells n args.ors args.times.now args.words.now s t kept in record {
+      answer = answer-ended (net_of cells n) args.finish W t _ words (eq-eqb _ 1 (sym now ∙ sym c.word_at.ensures ∙ c.if-word_at-eq1.true)) ∙ ap (slow_answer (net_of cells n) args.finish W) c.run-t.ensures.instant;
+      values = c.put_values.ensures
+          ∙ sym (overwrite-sets (value_bytes (λ k. word_in s k t) 0 n) args.values.now (omega (arith, bytes-length (λ k. word_in s k t) 0 n, pre.3)))
+          ∙ ap (λ (b : List ℕ). overwrite b args.values.now) (bytes ∙ ap (λ (u : ℕ). value_bytes (λ k. W k u) 0 n) c.run-t.ensures.instant);
+    }
+
+pub returns : goal.returns
+returns c =
+    let args = c.args in
+    let pre = c.requires in
+    let r = c.run-t in
+    let cells = args.cells.now in
+    let n = args.n in
+    let W = values_of cells n args.ors args.times.now args.words.now in
+    let t = r.result in
+    let s = r.new.work in
+    let T = end_at (level W args.finish) 0 args.budget in
+    let kept : KeptIn cells n args.ors args.times.now args.words.now t n s = c.run-t.ensures.kept in
+    let now : word_in s args.finish t ≡ W args.finish t = kept.seen.cells-now args.finish pre.1 in
+    let words = c.words_in-last.ensures ∙ kept-words cells n args.ors args.times.now args.words.now s t kept in
+    let bytes = kept-bytes cells n args.ors args.times.now args.words.now s t kept in record {
+      answer = answer-open (net_of cells n) args.finish W t _ words (ne_eqb _ 1 (λ e. c.if-word_at-eq1.false (c.word_at.ensures ∙ now ∙ e))) ∙ ap (slow_answer (net_of cells n) args.finish W) c.run-t.ensures.instant;
+      values = c.put_values.ensures
+          ∙ sym (overwrite-sets (value_bytes (λ k. word_in s k t) 0 n) args.values.now (omega (arith, bytes-length (λ k. word_in s k t) 0 n, pre.3)))
+          ∙ ap (λ (b : List ℕ). overwrite b args.values.now) (bytes ∙ ap (λ (u : ℕ). value_bytes (λ k. W k u) 0 n) c.run-t.ensures.instant);
+    }

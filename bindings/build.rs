@@ -1,5 +1,5 @@
 //! Links the proved archive: the one that HUB_ARCHIVE names, or else the one that
-//! `rt staticlib exports` writes.
+//! `dist/archive` writes.
 
 use std::env;
 use std::path::{Path, PathBuf};
@@ -9,7 +9,7 @@ fn main() {
     let archive = env::var_os("HUB_ARCHIVE").map_or(written, PathBuf::from);
     let archive = archive.canonicalize().unwrap_or_else(|error| {
         panic!(
-            "{}: {error}: run `rt staticlib exports` in the repository first, or let \
+            "{}: {error}: run `dist/archive` in the repository first, or let \
              HUB_ARCHIVE name the archive, as dist/libhub.a",
             archive.display()
         )

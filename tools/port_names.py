@@ -2,7 +2,8 @@
 """Brings the definitions and lemmas of crates/ to snake case, once, after port.py: `elementWord` is `element_word`, `upTo-frame` is `up_to-frame`.
 
 usage: python3 tools/port_names.py          at the top of the repository
-A name is changed, part by part between its dashes, if a file of specs/ or proofs/ declares it. Functions, types, modules, texts and locals stay as they are.
+A name is changed, part by part between its dashes, if a file of specs/ or proofs/ declares it, or if it is made of words, as a constructor's or a parameter's
+may be. Functions, types, modules, texts and the short names of locals stay as they are. It can run again.
 Names that would fall together in one file have a name of their own in OTHER.
 """
 
@@ -13,6 +14,7 @@ OTHER = {"walkAt": "walk_place", "allFair": "every_fair", "tooLong": "is_too_lon
 # A lemma that had the new name of a function already.
 LEMMAS = {"or_count": "or_count_lem"}
 TOKEN = re.compile(r"[^\s(){}\[\]·.,;:|«»\"]+")
+WORDS = re.compile(r"[a-z][A-Za-z0-9]*?[A-Z][a-z][A-Za-z0-9]*\Z")
 DECLARED = re.compile(r"\s*(?:abbrev |unfoldable |pub |data |record |ruleset )*([^\s(){}\[\].,;:|]+) :(?: |$)")
 
 
@@ -32,18 +34,25 @@ def declared(files):
                 m = DECLARED.match(line)
                 if m:
                     found |= {p for p in m.group(1).split("-") if camel(p)}
+                code = line.split("--")[0]
+                found |= {p for m in TOKEN.finditer(code) for p in m.group(0).split("-") if WORDS.match(p)}
     return found
 
 
 def renamed(text, names):
-    text = TOKEN.sub(lambda m: LEMMAS.get(m.group(0), m.group(0)), text)
+    if "orCount" in text:
+        text = TOKEN.sub(lambda m: LEMMAS.get(m.group(0), m.group(0)), text)
     return TOKEN.sub(lambda m: "-".join(snake(p) if p in names else p for p in m.group(0).split("-")), text)
 
 
+def files(ending):
+    return sorted(f for part in ("src", "specs", "proofs") for f in glob.glob(f"crates/*/{part}/**/*{ending}", recursive=True))
+
+
 def main():
-    proofs = sorted(glob.glob("crates/**/*.antt", recursive=True))
+    proofs = files(".antt")
     names = declared(proofs)
-    for name in proofs + sorted(glob.glob("crates/**/*.rt", recursive=True)):
+    for name in proofs + files(".rt"):
         with open(name, encoding="utf-8") as f:
             old = f.read()
         new = renamed(old, names)

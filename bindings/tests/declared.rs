@@ -80,16 +80,46 @@ fn of_c(given: &str) -> Vec<String> {
     types
 }
 
-/// The functions that crate exports has for other languages.
-fn in_rattle() -> Exports {
-    let folder = top().join("crates/exports/src");
+/// The source files of a crate.
+fn sources(name: &str) -> Vec<String> {
+    let folder = top().join("crates").join(name).join("src");
     let files = fs::read_dir(folder).expect("the crate");
     let files = files.map(|file| fs::read_to_string(file.expect("a file").path()));
-    let files: Vec<String> = files.map(|file| file.expect("a text")).collect();
+    files.map(|file| file.expect("a text")).collect()
+}
+
+/// The functions that crate exports_c has for other languages.
+fn in_rattle() -> Exports {
+    let files = sources("exports_c");
     let all = files
         .iter()
         .flat_map(|file| declarations(file, "pub extern \"C\" fn hub_"));
     all.map(|(name, given)| (name, typed(given))).collect()
+}
+
+/// The contract of each function whose declaration begins like this, line by line.
+fn contracts(name: &str, begin: &str) -> BTreeMap<String, Vec<String>> {
+    let mut found = BTreeMap::new();
+    for file in sources(name) {
+        for rest in file.split(begin).skip(1) {
+            let (name, _) = rest.split_once('(').expect("a bracket");
+            let (head, _) = rest.split_once("\n{\n").expect("a body");
+            let clauses = head
+                .lines()
+                .map(str::trim)
+                .skip_while(|line| !line.starts_with("requires") && !line.starts_with("ensures"));
+            found.insert(name.to_string(), clauses.map(str::to_string).collect());
+        }
+    }
+    found
+}
+
+#[test]
+fn an_export_promises_what_the_function_of_the_library_does() {
+    let expected = contracts("exports", "pub fn hub_");
+    let found = contracts("exports_c", "pub extern \"C\" fn hub_");
+    assert_eq!(found, expected);
+    assert!(found.values().all(|clauses| !clauses.is_empty()));
 }
 
 fn of(file: &str, begin: &str, types: fn(&str) -> Vec<String>) -> Exports {

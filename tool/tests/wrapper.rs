@@ -1,4 +1,4 @@
-//! `./hub` itself, in a repository of three small crates, with a kit and a cargo that
+//! `./hub` itself, in a repository of four small crates, with a kit and a cargo that
 //! only tell what they were asked: which archive it takes, when it proves, and what it
 //! says.
 
@@ -13,13 +13,17 @@ use std::process::{Command, Output};
 
 /// Proves anything, and tells each call in a file.
 const KIT: &str = "#!/bin/sh
-echo \"$@\" >>$(dirname $0)/asked
+crate=$(basename $PWD)
 case $1 in
-version) echo a kit ;;
-check) [ ! -e broken ] || { echo not proved; exit 1; } ;;
-staticlib) mkdir -p target/staticlib && cat crates/exports/src/lib.rt >target/staticlib/libexports.a ;;
+version) echo a kit; exit ;;
+lib) [ ! -e ../../broken ] || { echo not proved; exit 1; } ;;
 esac
+echo \"$@ in $crate\" >>$(dirname $0)/asked
+[ $crate != exports_c ] || { mkdir -p out && cat ../exports/src/lib.rt >out/libexports_c.a; }
 ";
+
+/// What is asked of it where the archive is proved.
+const EACH: [&str; 3] = ["lib in model", "lib in exports", "lib in exports_c"];
 
 /// Builds a tool that tells which archive it has and what it was asked.
 const CARGO: &str = "#!/bin/sh
@@ -45,14 +49,15 @@ impl Repository {
             folder: Folder::new(name),
         };
         let top = Path::new(env!("CARGO_MANIFEST_DIR")).join("..");
-        for file in ["hub", "dist/sums"] {
+        for file in ["hub", "dist/sums", "dist/archive"] {
             let text = fs::read_to_string(top.join(file)).expect("a script");
             repository.program(&format!("top/{file}"), &text);
         }
         repository.program("bin/rt", KIT);
         repository.program("bin/cargo", CARGO);
-        repository.write("top/crates.txt", "model:\ntheory: model\nexports: model\n");
-        for name in ["model", "theory", "exports"] {
+        let crates = "model:\ntheory: model\nexports: model\nexports_c staticlib: exports\n";
+        repository.write("top/crates.txt", crates);
+        for name in ["model", "theory", "exports", "exports_c"] {
             repository.write(&format!("top/crates/{name}/src/lib.rt"), name);
         }
         repository.ship();
@@ -88,8 +93,7 @@ impl Repository {
     /// What was asked of the kit, but for its version.
     fn asked(&self) -> Vec<String> {
         let asked = fs::read_to_string(self.at("bin/asked")).unwrap_or_default();
-        let lines = asked.lines().filter(|line| *line != "version");
-        lines.map(str::to_string).collect()
+        asked.lines().map(str::to_string).collect()
     }
 
     fn hub(&self, by: &str, words: &[&str]) -> (String, String, i32) {
@@ -135,7 +139,7 @@ fn what_the_archive_is_not_made_of_does_not_matter() {
     let repository = Repository::new("theory");
     repository.write("top/crates/theory/src/lib.rt", "another");
     repository.write("top/crates/exports/must-fail/a.edit", "another");
-    let crates = "model:\ntheory: model\nhubrun: model\nexports: model\n";
+    let crates = "model:\ntheory: model\nhubrun: model\nexports: model\nexports_c staticlib: exports\n";
     repository.write("top/crates.txt", crates);
     let (out, _, _) = repository.hub("top/hub", &["run"]);
     assert_eq!(out, "libhub.a exports: run\n");
@@ -154,13 +158,14 @@ fn other_sources_are_proved_once() {
     assert_eq!(
         lines,
         [
-            "hub: proving and building the archive, which takes some ten minutes the first time",
-            "hub: model (1 of 2)",
-            "hub: exports (2 of 2)",
+            "hub: proving and building the archive, which takes long the first time",
+            "hub: model (1 of 3)",
+            "hub: exports (2 of 3)",
+            "hub: exports_c (3 of 3)",
             "hub: building the tool",
         ]
     );
-    assert_eq!(repository.asked(), ["check model", "staticlib exports"]);
+    assert_eq!(repository.asked(), EACH);
     // The time of a file doesn't matter.
     repository.write("top/crates/exports/src/lib.rt", "another");
     let (_, error, _) = repository.hub("top/hub", &["run"]);
@@ -168,7 +173,7 @@ fn other_sources_are_proved_once() {
     // A new file does.
     repository.write("top/crates/model/specs/More.antt", "more");
     let (_, error, _) = repository.hub("top/hub", &["run"]);
-    assert!(error.contains("exports (2 of 2)"), "{error}");
+    assert!(error.contains("exports_c (3 of 3)"), "{error}");
 }
 
 #[test]
@@ -186,7 +191,7 @@ fn prove_holds_the_archive_against_the_shipped_one() {
     let last = "hub: proved; the archive is dist/libhub.a, byte for byte";
     assert_eq!((out.as_str(), exit), ("", 0));
     assert_eq!(error.lines().last(), Some(last));
-    assert_eq!(repository.asked(), ["check model", "staticlib exports"]);
+    assert_eq!(repository.asked(), EACH);
 }
 
 #[test]
@@ -197,10 +202,10 @@ fn what_is_not_proved_is_told() {
     let (out, error, exit) = repository.hub("top/hub", &["run"]);
     assert_eq!((out.as_str(), exit), ("", 70));
     assert!(
-        error.contains("hub: model (1 of 2)\nnot proved\n"),
+        error.contains("hub: model (1 of 3)\nnot proved\n"),
         "{error}"
     );
-    assert!(error.contains("'rt check model'"), "{error}");
+    assert!(error.contains("'rt lib' in "), "{error}");
 }
 
 #[test]

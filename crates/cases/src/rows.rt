@@ -97,9 +97,9 @@ fn same(a: Answer, b: Answer) -> bool
     let mut y = [0u8; 48];
     reply::put(&mut y, reply::of_answer(b));
     if x[0] == 2 {
-        check::same(&x[..16], &y[..16])
+        x[..16] == y[..16]
     } else {
-        check::same(&x, &y)
+        x == y
     }
 }
 

@@ -1,43 +1,45 @@
 // A row's line: its name, and the answer that circuit and rules gave, or "differs".
 use crate::rows;
-use libc::STDOUT_FILENO;
 use model::{Answer, Outcome};
+use std::io;
 
-pub fn row(name: &[u8], program: &[u8], word: u16, budget: u32, wanted: Answer) {
-    row_of(name, 0, program, word, budget, wanted)
+pub fn row(
+    rt: &impl Print,
+    name: &str,
+    program: &[u8],
+    word: u16,
+    budget: u32,
+    wanted: Answer,
+) -> io::Result<()> {
+    row_of(rt, name, 0, program, word, budget, wanted)
 }
 
 // The same of a program with procedures.
 pub fn row_of(
-    name: &[u8],
+    rt: &impl Print,
+    name: &str,
     procedures: usize,
     program: &[u8],
     word: u16,
     budget: u32,
     wanted: Answer,
-) {
-    io::write_all(STDOUT_FILENO, name);
+) -> io::Result<()> {
     if rows::holds(procedures, program, word, budget, wanted) {
-        answer(wanted);
+        answer(rt, name, wanted)
     } else {
-        io::write_all(STDOUT_FILENO, b": differs\n");
+        println!(rt; "{name}: differs")
     }
 }
 
-fn answer(a: Answer) {
-    let outcome = a.outcome;
-    match outcome {
-        Outcome::Ended => number(b": end ", a.instant as u64),
-        Outcome::Open => number(b": open ", a.instant as u64),
-        Outcome::Refused(r) => {
-            number(b": refused ", r.number as u64);
-            number(b" ", r.place as u64);
+fn answer(rt: &impl Print, name: &str, wanted: Answer) -> io::Result<()> {
+    let instant = wanted.instant;
+    match wanted.outcome {
+        Outcome::Ended => println!(rt; "{name}: end {instant}"),
+        Outcome::Open => println!(rt; "{name}: open {instant}"),
+        Outcome::Refused(refusal) => {
+            let number = refusal.number;
+            let place = refusal.place;
+            println!(rt; "{name}: refused {number} {place}")
         }
     }
-    io::write_all(STDOUT_FILENO, b"\n");
-}
-
-fn number(before: &[u8], n: u64) {
-    io::write_all(STDOUT_FILENO, before);
-    io::print_decimal(STDOUT_FILENO, n);
 }

@@ -13,8 +13,7 @@ ghost use Rattle.reply.specs.Replies.{checked_reply, written_reply, answer_reply
 use crate::runs;
 use model::Format;
 
-#[unsafe(no_mangle)]
-pub extern "C" fn hub_check(
+pub fn hub_check(
     timed: bool,
     table: &[u8],
     procedures: usize,
@@ -34,8 +33,7 @@ pub extern "C" fn hub_check(
     true
 }
 
-#[unsafe(no_mangle)]
-pub extern "C" fn hub_compile(
+pub fn hub_compile(
     timed: bool,
     table: &[u8],
     procedures: usize,
@@ -59,8 +57,7 @@ pub extern "C" fn hub_compile(
 
 // Parts stand one after another in the lent bytes, each a program and its netlist file; the lengths are those of these, in that order, and each part has
 // its pulse length.
-#[unsafe(no_mangle)]
-pub extern "C" fn hub_join(
+pub fn hub_join(
     timed: bool,
     table: &[u8],
     lengths: &[u32],
@@ -82,14 +79,7 @@ pub extern "C" fn hub_join(
     true
 }
 
-#[unsafe(no_mangle)]
-pub extern "C" fn hub_write(
-    pulse: u8,
-    cells: &[u8],
-    finish: u16,
-    file: &mut [u8],
-    reply: &mut [u8],
-) -> bool
+pub fn hub_write(pulse: u8, cells: &[u8], finish: u16, file: &mut [u8], reply: &mut [u8]) -> bool
     ensures done { result ≡ room_for reply.old }
     ensures file { file.new ≡ if_room reply.old (write_call pulse cells.now finish file.old).lent file.old }
     ensures reply { reply.new ≡ if_room reply.old (replied (written_reply (write_call pulse cells.now finish file.old).answer) reply.old) reply.old }
@@ -102,8 +92,7 @@ pub extern "C" fn hub_write(
     true
 }
 
-#[unsafe(no_mangle)]
-pub extern "C" fn hub_read(file: &[u8], cells: &mut [u8], reply: &mut [u8]) -> bool
+pub fn hub_read(file: &[u8], cells: &mut [u8], reply: &mut [u8]) -> bool
     ensures done { result ≡ room_for reply.old }
     ensures cells { cells.new ≡ if_room reply.old (read_call file.now cells.old).lent cells.old }
     ensures reply { reply.new ≡ if_room reply.old (replied (written_reply (read_call file.now cells.old).answer) reply.old) reply.old }
@@ -116,13 +105,7 @@ pub extern "C" fn hub_read(file: &[u8], cells: &mut [u8], reply: &mut [u8]) -> b
     true
 }
 
-#[unsafe(no_mangle)]
-pub extern "C" fn hub_begin(
-    netlist: &[u8],
-    words: &[u8],
-    state: &mut [u8],
-    reply: &mut [u8],
-) -> bool
+pub fn hub_begin(netlist: &[u8], words: &[u8], state: &mut [u8], reply: &mut [u8]) -> bool
     ensures done { result ≡ room_for reply.old }
     ensures state { state.new ≡ if_room reply.old (begin_call Full netlist.now words.now state.old).lent state.old }
     ensures reply { reply.new ≡ if_room reply.old (replied (answer_reply (begin_call Full netlist.now words.now state.old).answer) reply.old) reply.old }
@@ -130,13 +113,7 @@ pub extern "C" fn hub_begin(
     runs::begin(Format::Full, netlist, words, state, reply)
 }
 
-#[unsafe(no_mangle)]
-pub extern "C" fn hub_begin_compact(
-    netlist: &[u8],
-    words: &[u8],
-    state: &mut [u8],
-    reply: &mut [u8],
-) -> bool
+pub fn hub_begin_compact(netlist: &[u8], words: &[u8], state: &mut [u8], reply: &mut [u8]) -> bool
     ensures done { result ≡ room_for reply.old }
     ensures state { state.new ≡ if_room reply.old (begin_call Compact netlist.now words.now state.old).lent state.old }
     ensures reply { reply.new ≡ if_room reply.old (replied (answer_reply (begin_call Compact netlist.now words.now state.old).answer) reply.old) reply.old }
@@ -144,8 +121,7 @@ pub extern "C" fn hub_begin_compact(
     runs::begin(Format::Compact, netlist, words, state, reply)
 }
 
-#[unsafe(no_mangle)]
-pub extern "C" fn hub_continue(netlist: &[u8], state: &mut [u8], n: u32, reply: &mut [u8]) -> bool
+pub fn hub_continue(netlist: &[u8], state: &mut [u8], n: u32, reply: &mut [u8]) -> bool
     ensures done { result ≡ room_for reply.old }
     ensures state { state.new ≡ if_room reply.old (continue_call Full netlist.now n state.old).lent state.old }
     ensures reply { reply.new ≡ if_room reply.old (replied (answer_reply (continue_call Full netlist.now n state.old).answer) reply.old) reply.old }
@@ -153,13 +129,7 @@ pub extern "C" fn hub_continue(netlist: &[u8], state: &mut [u8], n: u32, reply: 
     runs::continue_by(Format::Full, netlist, state, n, reply)
 }
 
-#[unsafe(no_mangle)]
-pub extern "C" fn hub_continue_compact(
-    netlist: &[u8],
-    state: &mut [u8],
-    n: u32,
-    reply: &mut [u8],
-) -> bool
+pub fn hub_continue_compact(netlist: &[u8], state: &mut [u8], n: u32, reply: &mut [u8]) -> bool
     ensures done { result ≡ room_for reply.old }
     ensures state { state.new ≡ if_room reply.old (continue_call Compact netlist.now n state.old).lent state.old }
     ensures reply { reply.new ≡ if_room reply.old (replied (answer_reply (continue_call Compact netlist.now n state.old).answer) reply.old) reply.old }
@@ -167,8 +137,7 @@ pub extern "C" fn hub_continue_compact(
     runs::continue_by(Format::Compact, netlist, state, n, reply)
 }
 
-#[unsafe(no_mangle)]
-pub extern "C" fn hub_start(netlist: &[u8], state: &mut [u8], reply: &mut [u8]) -> bool
+pub fn hub_start(netlist: &[u8], state: &mut [u8], reply: &mut [u8]) -> bool
     ensures done { result ≡ room_for reply.old }
     ensures state { state.new ≡ if_room reply.old (start_call Full netlist.now state.old).lent state.old }
     ensures reply { reply.new ≡ if_room reply.old (replied (answer_reply (start_call Full netlist.now state.old).answer) reply.old) reply.old }
@@ -176,8 +145,7 @@ pub extern "C" fn hub_start(netlist: &[u8], state: &mut [u8], reply: &mut [u8]) 
     runs::start(Format::Full, netlist, state, reply)
 }
 
-#[unsafe(no_mangle)]
-pub extern "C" fn hub_start_compact(netlist: &[u8], state: &mut [u8], reply: &mut [u8]) -> bool
+pub fn hub_start_compact(netlist: &[u8], state: &mut [u8], reply: &mut [u8]) -> bool
     ensures done { result ≡ room_for reply.old }
     ensures state { state.new ≡ if_room reply.old (start_call Compact netlist.now state.old).lent state.old }
     ensures reply { reply.new ≡ if_room reply.old (replied (answer_reply (start_call Compact netlist.now state.old).answer) reply.old) reply.old }
@@ -185,8 +153,7 @@ pub extern "C" fn hub_start_compact(netlist: &[u8], state: &mut [u8], reply: &mu
     runs::start(Format::Compact, netlist, state, reply)
 }
 
-#[unsafe(no_mangle)]
-pub extern "C" fn hub_run_netlist(
+pub fn hub_run_netlist(
     netlist: &[u8],
     words: &[u8],
     budget: u32,
@@ -205,8 +172,7 @@ pub extern "C" fn hub_run_netlist(
     true
 }
 
-#[unsafe(no_mangle)]
-pub extern "C" fn hub_run_program(
+pub fn hub_run_program(
     timed: bool,
     table: &[u8],
     procedures: usize,
@@ -232,8 +198,7 @@ pub extern "C" fn hub_run_program(
     true
 }
 
-#[unsafe(no_mangle)]
-pub extern "C" fn hub_slow_run(
+pub fn hub_slow_run(
     timed: bool,
     table: &[u8],
     procedures: usize,
@@ -258,8 +223,7 @@ pub extern "C" fn hub_slow_run(
     true
 }
 
-#[unsafe(no_mangle)]
-pub extern "C" fn hub_reference(
+pub fn hub_reference(
     timed: bool,
     table: &[u8],
     procedures: usize,
@@ -281,8 +245,7 @@ pub extern "C" fn hub_reference(
     true
 }
 
-#[unsafe(no_mangle)]
-pub extern "C" fn hub_read_text(
+pub fn hub_read_text(
     timed: bool,
     table: &[u8],
     procedures: usize,
@@ -304,8 +267,7 @@ pub extern "C" fn hub_read_text(
     true
 }
 
-#[unsafe(no_mangle)]
-pub extern "C" fn hub_compile_text(
+pub fn hub_compile_text(
     timed: bool,
     table: &[u8],
     procedures: usize,
@@ -327,8 +289,7 @@ pub extern "C" fn hub_compile_text(
     true
 }
 
-#[unsafe(no_mangle)]
-pub extern "C" fn hub_run_text(
+pub fn hub_run_text(
     timed: bool,
     table: &[u8],
     procedures: usize,

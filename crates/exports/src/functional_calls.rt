@@ -51,13 +51,7 @@ fn start(format: Format, netlist: &[u8], state: &mut [u8], reply: &mut [u8]) -> 
 
 // The exported calls ------------------------------------------------------------------------------------------------------------------------
 
-#[unsafe(no_mangle)]
-pub extern "C" fn hub_check_functional(
-    timed: bool,
-    table: &[u8],
-    program: &[u8],
-    reply: &mut [u8],
-) -> bool
+pub fn hub_check_functional(timed: bool, table: &[u8], program: &[u8], reply: &mut [u8]) -> bool
     ensures done { result ≡ room_for reply.old }
     ensures reply { reply.new ≡ if_room reply.old (replied (checked_reply (check_functional_call (load (beside (given_if timed table.now) 0 1)) program.now)) reply.old) reply.old }
 {
@@ -70,8 +64,7 @@ pub extern "C" fn hub_check_functional(
     true
 }
 
-#[unsafe(no_mangle)]
-pub extern "C" fn hub_compile_functional(
+pub fn hub_compile_functional(
     timed: bool,
     table: &[u8],
     program: &[u8],
@@ -91,8 +84,7 @@ pub extern "C" fn hub_compile_functional(
     true
 }
 
-#[unsafe(no_mangle)]
-pub extern "C" fn hub_reference_functional(
+pub fn hub_reference_functional(
     timed: bool,
     table: &[u8],
     program: &[u8],
@@ -112,8 +104,7 @@ pub extern "C" fn hub_reference_functional(
     true
 }
 
-#[unsafe(no_mangle)]
-pub extern "C" fn hub_begin_functional(
+pub fn hub_begin_functional(
     netlist: &[u8],
     words: &[u8],
     state: &mut [u8],
@@ -126,8 +117,7 @@ pub extern "C" fn hub_begin_functional(
     begin(Format::Full, netlist, words, state, reply)
 }
 
-#[unsafe(no_mangle)]
-pub extern "C" fn hub_begin_functional_compact(
+pub fn hub_begin_functional_compact(
     netlist: &[u8],
     words: &[u8],
     state: &mut [u8],
@@ -140,13 +130,7 @@ pub extern "C" fn hub_begin_functional_compact(
     begin(Format::Compact, netlist, words, state, reply)
 }
 
-#[unsafe(no_mangle)]
-pub extern "C" fn hub_continue_functional(
-    netlist: &[u8],
-    state: &mut [u8],
-    n: u32,
-    reply: &mut [u8],
-) -> bool
+pub fn hub_continue_functional(netlist: &[u8], state: &mut [u8], n: u32, reply: &mut [u8]) -> bool
     ensures done { result ≡ room_for reply.old }
     ensures state { state.new ≡ if_room reply.old (continue_functional_call Full netlist.now n state.old).lent state.old }
     ensures reply { reply.new ≡ if_room reply.old (replied (answer_reply (continue_functional_call Full netlist.now n state.old).answer) reply.old) reply.old }
@@ -154,8 +138,7 @@ pub extern "C" fn hub_continue_functional(
     continue_by(Format::Full, netlist, state, n, reply)
 }
 
-#[unsafe(no_mangle)]
-pub extern "C" fn hub_continue_functional_compact(
+pub fn hub_continue_functional_compact(
     netlist: &[u8],
     state: &mut [u8],
     n: u32,
@@ -168,8 +151,7 @@ pub extern "C" fn hub_continue_functional_compact(
     continue_by(Format::Compact, netlist, state, n, reply)
 }
 
-#[unsafe(no_mangle)]
-pub extern "C" fn hub_start_functional(netlist: &[u8], state: &mut [u8], reply: &mut [u8]) -> bool
+pub fn hub_start_functional(netlist: &[u8], state: &mut [u8], reply: &mut [u8]) -> bool
     ensures done { result ≡ room_for reply.old }
     ensures state { state.new ≡ if_room reply.old (start_functional_call Full netlist.now state.old).lent state.old }
     ensures reply { reply.new ≡ if_room reply.old (replied (answer_reply (start_functional_call Full netlist.now state.old).answer) reply.old) reply.old }
@@ -177,12 +159,7 @@ pub extern "C" fn hub_start_functional(netlist: &[u8], state: &mut [u8], reply: 
     start(Format::Full, netlist, state, reply)
 }
 
-#[unsafe(no_mangle)]
-pub extern "C" fn hub_start_functional_compact(
-    netlist: &[u8],
-    state: &mut [u8],
-    reply: &mut [u8],
-) -> bool
+pub fn hub_start_functional_compact(netlist: &[u8], state: &mut [u8], reply: &mut [u8]) -> bool
     ensures done { result ≡ room_for reply.old }
     ensures state { state.new ≡ if_room reply.old (start_functional_call Compact netlist.now state.old).lent state.old }
     ensures reply { reply.new ≡ if_room reply.old (replied (answer_reply (start_functional_call Compact netlist.now state.old).answer) reply.old) reply.old }
@@ -190,8 +167,7 @@ pub extern "C" fn hub_start_functional_compact(
     start(Format::Compact, netlist, state, reply)
 }
 
-#[unsafe(no_mangle)]
-pub extern "C" fn hub_run_functional(
+pub fn hub_run_functional(
     netlist: &[u8],
     words: &[u8],
     budget: u32,
@@ -210,8 +186,7 @@ pub extern "C" fn hub_run_functional(
     true
 }
 
-#[unsafe(no_mangle)]
-pub extern "C" fn hub_run_functional_program(
+pub fn hub_run_functional_program(
     timed: bool,
     table: &[u8],
     program: &[u8],

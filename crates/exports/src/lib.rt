@@ -42,8 +42,7 @@ fn scanned(cells: &[Cell], finish: u16) -> Scan
 }
 
 // Refusals 11 and 12 of a netlist.
-#[unsafe(no_mangle)]
-pub extern "C" fn hub_check_cells(cells: &[Cell], finish: u16, reply: &mut [u8]) -> bool
+pub fn hub_check_cells(cells: &[Cell], finish: u16, reply: &mut [u8]) -> bool
     ensures done { result ≡ room_for reply.old }
     ensures reply { reply.new ≡ if_room reply.old (replied (checked_reply (check_cells_call cells.now finish)) reply.old) reply.old }
 {
@@ -65,8 +64,7 @@ fn put_cells(cells: &[Cell], n: usize, first: u16, finish: u16, file: &mut [u8])
 }
 
 // Writes a netlist of this pulse length as a file: refusals 27, 11, 12, 14.
-#[unsafe(no_mangle)]
-pub extern "C" fn hub_write_cells(
+pub fn hub_write_cells(
     pulse: u8,
     cells: &[Cell],
     finish: u16,
@@ -109,13 +107,7 @@ fn place_cells(cells: &mut [Cell], from: usize, end: usize, k: u16, file: &[u8])
 }
 
 // Reads a netlist file behind the first `at` cells: refusals 9 to 12, 14.
-#[unsafe(no_mangle)]
-pub extern "C" fn hub_read_cells(
-    file: &[u8],
-    at: usize,
-    cells: &mut [Cell],
-    reply: &mut [u8],
-) -> bool
+pub fn hub_read_cells(file: &[u8], at: usize, cells: &mut [Cell], reply: &mut [u8]) -> bool
     ensures done { result ≡ room_for reply.old }
     ensures cells { cells.new ≡ if_room reply.old (read_cells_call file.now at cells.old).lent cells.old }
     ensures reply { reply.new ≡ if_room reply.old (replied (written_reply (read_cells_call file.now at cells.old).answer) reply.old) reply.old }

@@ -33,8 +33,7 @@ fn renumber_bytes(cells: &mut [u8], from: usize, end: usize, k: u16)
 
 // Renumbering over six bytes for each cell, for callers that hold no structs. It answers whether there are cells up to `end`; where
 // there are not, it does nothing.
-#[unsafe(no_mangle)]
-pub extern "C" fn hub_renumber(cells: &mut [u8], from: usize, end: usize, k: u16) -> bool
+pub fn hub_renumber(cells: &mut [u8], from: usize, end: usize, k: u16) -> bool
     ensures done { result ≡ has_cells end cells.old }
     ensures cells { cells.new ≡ renumber_call k from end cells.old }
 {

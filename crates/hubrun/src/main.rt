@@ -3,15 +3,17 @@
 
 mod text;
 
-use libc::{STDERR_FILENO, STDIN_FILENO, STDOUT_FILENO};
+use std::io;
+use std::io::{Read, Write};
 
 // A program above 800 bytes is refused whatever follows, so 36 + 801 bytes tell all (cut-text in proofs/Texts).
-fn main() {
-    let mut input = [0u8; 837];
-    let n = io::read_full(STDIN_FILENO, &mut input);
+fn main(rt: HostRuntime) -> io::Result<()> {
+    let mut input = Vec::new(rt.alloc());
+    rt.stdin().take(837).read_to_end(&mut input)?;
     let mut out = [0u8; 512];
-    let m = text::text(&input[..n], &mut out);
-    if !io::write_all(STDOUT_FILENO, &out[..m]) {
-        io::write_all(STDERR_FILENO, b"hubrun: standard output can't be written\n");
+    let count = text::text(&input, &mut out);
+    if rt.stdout().write_all(&out[..count]).is_err() {
+        eprintln!(rt; "hubrun: standard output can't be written")?;
     }
+    Ok(())
 }

@@ -3,18 +3,17 @@
 
 mod output;
 
-use libc::{STDERR_FILENO, STDIN_FILENO, STDOUT_FILENO};
+use std::io;
+use std::io::{Read, Write};
 
 // A text above 4,096 bytes is refused whatever follows, so 4,097 bytes tell all (cut-text in proofs/Outputs).
-fn main() {
-    let mut source = [0u8; 4097];
-    let n = io::read_full(STDIN_FILENO, &mut source);
+fn main(rt: HostRuntime) -> io::Result<()> {
+    let mut source = Vec::new(rt.alloc());
+    rt.stdin().take(4097).read_to_end(&mut source)?;
     let mut out = [0u8; 1024];
-    let m = output::output(&source[..n], &mut out);
-    if !io::write_all(STDOUT_FILENO, &out[..m]) {
-        io::write_all(
-            STDERR_FILENO,
-            b"hubtext: standard output can't be written\n",
-        );
+    let count = output::output(&source, &mut out);
+    if rt.stdout().write_all(&out[..count]).is_err() {
+        eprintln!(rt; "hubtext: standard output can't be written")?;
     }
+    Ok(())
 }

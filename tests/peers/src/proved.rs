@@ -26,8 +26,9 @@ pub fn complaint(program: &str) -> Vec<u8> {
 }
 
 fn run(program: &str, input: &[u8], output: Stdio) -> Output {
-    let folder = Path::new(env!("CARGO_MANIFEST_DIR")).join("../../target/bin");
-    let mut process = Command::new(folder.join(program))
+    let crates = Path::new(env!("CARGO_MANIFEST_DIR")).join("../../crates");
+    let built = crates.join(program).join("out").join(program);
+    let mut process = Command::new(built)
         .stdin(Stdio::piped())
         .stdout(output)
         .stderr(Stdio::piped())

@@ -1,7 +1,7 @@
-// The program hubrun: text has what it prints. This reads and writes, and says where nothing could be written.
+// The program hubrun: printed has what it prints. This reads and writes, and says where nothing could be written.
 #![tactic(auto)]
 
-mod text;
+mod printed;
 
 use std::io;
 use std::io::{Read, Write};
@@ -11,7 +11,7 @@ fn main(rt: HostRuntime) -> io::Result<()> {
     let mut input = Vec::new(rt.alloc());
     rt.stdin().take(837).read_to_end(&mut input)?;
     let mut out = [0u8; 512];
-    let count = text::text(&input, &mut out);
+    let count = printed::text(&input, &mut out);
     if rt.stdout().write_all(&out[..count]).is_err() {
         eprintln!(rt; "hubrun: standard output can't be written")?;
     }

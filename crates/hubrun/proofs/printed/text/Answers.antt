@@ -1,6 +1,6 @@
--- `text::text` meets its contract: too short an input, or a run. Assumes nothing.
+-- `printed::text` meets its contract: too short an input, or a run. Assumes nothing.
 use Rattle.hubrun.proofs.Texts.{short-text, long-text}
-use Rattle.hubrun.proofs.text.text.Goals as goal
+use Rattle.hubrun.proofs.printed.text.Goals as goal
 
 pub returns-then-input-lt36 : goal.returns-then-input-lt36
 returns-then-input-lt36 c =

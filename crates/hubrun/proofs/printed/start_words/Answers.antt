@@ -1,6 +1,6 @@
--- `text::start_words` meets its contract. Assumes nothing.
+-- `printed::start_words` meets its contract. Assumes nothing.
 use Rattle.hubrun.proofs.Texts.{started-put}
-use Rattle.hubrun.proofs.text.start_words.Goals as goal
+use Rattle.hubrun.proofs.printed.start_words.Goals as goal
 
 pub returns : goal.returns
 returns c =

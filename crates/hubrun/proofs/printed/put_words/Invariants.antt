@@ -1,11 +1,11 @@
--- `text::put_words` meets its contract. The invariant: putting in the line of the words that are left comes out as putting in the whole line.
+-- `printed::put_words` meets its contract. The invariant: putting in the line of the words that are left comes out as putting in the whole line.
 -- Assumes nothing.
 use mathlib.Core.Path.{◌≡◌}
 use Prim.Native.Nat.{◌+◌, ◌-◌, ◌≤◌}
 use lib.ListN.{length}
 use lib.Seq.{sets}
 use Rattle.hubrun.proofs.Lines.{line_from}
-use Rattle.hubrun.proofs.text.put_words.Given as goal
+use Rattle.hubrun.proofs.printed.put_words.Given as goal
 
 abbrev pub invariant-loop-k : goal.invariant-loop-k
 invariant-loop-k l =

@@ -1,11 +1,11 @@
--- `text::put_words` meets its contract. The invariant: putting in the line of the words that are left comes out as putting in the whole line.
+-- `printed::put_words` meets its contract. The invariant: putting in the line of the words that are left comes out as putting in the whole line.
 -- Assumes nothing.
 use mathlib.Core.Path.{◌≡◌, refl, sym, ◌∙◌}
 use Prim.Native.Nat.{◌+◌, ◌≤◌}
 use native.Mathlib.Omega.{arith}
 use lib.ListN.{length}
 use Rattle.hubrun.proofs.Lines.{line_from, more-length, last-length, put-more-words, put-last-word}
-use Rattle.hubrun.proofs.text.put_words.Goals as goal
+use Rattle.hubrun.proofs.printed.put_words.Goals as goal
 
 pub loop-k-init : goal.loop-k-init
 loop-k-init c = (omega arith, refl, refl, refl)

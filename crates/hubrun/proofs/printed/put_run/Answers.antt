@@ -1,11 +1,11 @@
--- `text::put_run` meets its contract: three puts side by side. Assumes nothing.
+-- `printed::put_run` meets its contract: three puts side by side. Assumes nothing.
 use mathlib.Core.List.{[], ◌∷◌, ◌++◌, map}
 use native.Mathlib.Omega.{arith}
 use Rattle.model.specs.Hubrun.{decimal, line}
 use Rattle.lines.proofs.Digits.{decimal-length}
 use Rattle.hubrun.proofs.Lines.{line-length}
 use Rattle.lines.proofs.Puts.{number_put, put_both, put-over}
-use Rattle.hubrun.proofs.text.put_run.Goals as goal
+use Rattle.hubrun.proofs.printed.put_run.Goals as goal
 
 pub put_number-first-requires : goal.put_number-first-requires
 put_number-first-requires c =

@@ -1,11 +1,11 @@
--- `text::run` meets its contract. Assumes nothing.
+-- `printed::run` meets its contract. Assumes nothing.
 use native.Mathlib.Omega.{arith}
 use mathlib.Core.Path.{◌≡◌}
 use Prim.Native.Nat.{◌-◌}
 use lib.ListN.{length, take, drop, replicate, length-take, length-drop}
 use lib.Seq.{take_all}
 use Rattle.hubrun.proofs.Texts.{run-told}
-use Rattle.hubrun.proofs.text.run.Goals as goal
+use Rattle.hubrun.proofs.printed.run.Goals as goal
 
 pub slice_bounds-start_words-end : goal.slice_bounds-start_words-end
 slice_bounds-start_words-end c = simp length-take (omega (arith, c.requires))

@@ -1,6 +1,6 @@
--- `text::answer_text` meets its contract, by cases on the outcome. Assumes nothing.
+-- `printed::answer_text` meets its contract, by cases on the outcome. Assumes nothing.
 use Rattle.model.specs.Hubrun.{line, lines_of}
-use Rattle.hubrun.proofs.text.answer_text.Goals as goal
+use Rattle.hubrun.proofs.printed.answer_text.Goals as goal
 
 pub returns-in-Ended : goal.returns-in-Ended
 unfolding line lines_of

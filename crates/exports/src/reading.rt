@@ -12,7 +12,7 @@ use model::{Cell, Checked, Refusal, Written};
 use netlist::cells::Layout;
 
 // Whether the answer is told, and the cells that the call puts in: those from number `from` up to `end`, none where it is refused.
-#[derive(Drop)]
+#[derive(Clone, Copy)]
 pub struct Plan {
     pub told: bool,
     pub from: usize,

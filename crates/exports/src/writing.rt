@@ -11,7 +11,7 @@ use model::{Checked, Refusal, Written};
 use netlist::rules::Scan;
 
 // Whether the answer is told, how many cells the call puts in, none where it is refused, and the number of the first block.
-#[derive(Drop)]
+#[derive(Clone, Copy)]
 pub struct Write {
     pub told: bool,
     pub n: usize,

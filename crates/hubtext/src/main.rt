@@ -8,11 +8,18 @@ use std::io::{Read, Write};
 
 // A text above 4,096 bytes is refused whatever follows, so 4,097 bytes tell all (cut-text in proofs/Outputs).
 fn main(rt: HostRuntime) -> io::Result<()> {
-    let mut source = Vec::new(rt.alloc());
-    rt.stdin().take(4097).read_to_end(&mut source)?;
+    let mut source = [0u8; 4097];
+    let mut count = 0;
+    while count < 4097 {
+        let read = rt.stdin().read(&mut source[count..])?;
+        if read == 0 {
+            break;
+        }
+        count += read;
+    }
     let mut out = [0u8; 1024];
-    let count = output::output(&source, &mut out);
-    if rt.stdout().write_all(&out[..count]).is_err() {
+    let length = output::output(&source[..count], &mut out);
+    if rt.stdout().write_all(&out[..length]).is_err() {
         eprintln!(rt; "hubtext: standard output can't be written")?;
     }
     Ok(())

@@ -1,28 +1,11 @@
--- The start words, runs from them, answers as replies, and nodes made of one kind. Assumes nothing.
+-- Answers as replies, and nodes made of one kind. Assumes nothing.
 use mathlib.Core.Path.{◌≡◌, refl, sym, ◌∙◌, ap}
 use mathlib.Core.List.{List}
 use Prim.Native.Nat.{ℕ, suc, ◌+◌, ◌-◌, ◌*◌, ◌<◌, ◌≤◌}
 use native.Mathlib.Omega.{arith}
-use lib.ListN.{set, get_or, take, replicate}
+use lib.ListN.{set, get_or, take}
 use Rattle.model.specs.declared.Answer.{Answer}
-use Rattle.model.specs.Word.{put16}
-use Rattle.model.specs.declared.Options.{Options}
-use Rattle.model.specs.Calls.{run_program_call}
-use Rattle.model.specs.Cases.{start}
-use Rattle.reply.specs.declared.Reply.{Reply}
-use Rattle.reply.specs.Replies.{answer_reply, replied}
 use Rattle.cases.specs.Rows.{bytes_of, Same, kinds_from}
-
-pub start-put : (v : ℕ) {words : List ℕ} → words ≡ put16 (replicate 544 0) 0 v → words ≡ start v
-unfolding put16
-start-put v e = e
-
-pub run-from : (options : Options) (program : List ℕ) (v budget : ℕ) (netlist state : List ℕ) {words : List ℕ} {r : Answer} → words ≡ start v
-    → r ≡ (run_program_call options program words budget netlist state).answer → r ≡ (run_program_call options program (start v) budget netlist state).answer
-run-from options program v budget netlist state e told = rw (← e) told
-
-pub bytes-put : (a : Answer) {x : List ℕ} {r : Reply} → x ≡ replied r (replicate 48 0) → r ≡ answer_reply a → x ≡ bytes_of a
-bytes-put a e f = e ∙ ap (λ (r : Reply). replied r (replicate 48 0)) f
 
 -- the answers whose bytes are x and y
 module _ (a b : Answer) {x y : List ℕ} (e : x ≡ bytes_of a) (f : y ≡ bytes_of b) where

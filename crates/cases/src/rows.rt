@@ -4,7 +4,7 @@ ghost use Rattle.std.specs.Prelude.{◌≡◌, true, ◌*◌, ◌≤◌, ◌<◌
 ghost use Rattle.model.specs.TimeTables.{built_in, beside, load};
 ghost use Rattle.model.specs.Calls.{run_program_call, reference_call, refused_answer};
 ghost use Rattle.model.specs.Cases.{start, end_answer};
-ghost use Rattle.cases.specs.Rows.{open_answer, Same, Holds, kinds_set};
+ghost use Rattle.cases.specs.Rows.{open_answer, bytes_of, Same, Holds, kinds_set};
 
 use model::sizes::{COMPILED_FILE, COMPILED_STATE, START_WORDS};
 use model::{Answer, Outcome, Refusal};
@@ -38,12 +38,7 @@ pub fn stays_open(instant: u32) -> Answer
 pub fn refuses(number: u8, place: usize) -> Answer
     ensures { result ≡ refused_answer (record { number = number; place = place }) }
 {
-    Answer {
-        outcome: Outcome::Refused(Refusal { number, place }),
-        instant: 0,
-        count: 0,
-        words: [0u16; 16],
-    }
+    Answer::refused(Refusal { number, place })
 }
 
 // Nodes from one place to another, all of a kind.
@@ -51,51 +46,62 @@ pub fn set_kinds(program: &mut [u8], from: usize, to: usize, kind: u8)
     requires { 4 * to ≤ length program.old }
     ensures { program.new ≡ kinds_set program.old from to kind }
 {
-    let mut i = from;
-    while i < to {
+    for i in from..to {
         program[4 * i] = kind;
-        i += 1;
     }
+}
+
+// The start words where variable 0 has this word and the others 0.
+#[tactic(auto, unfolding(model::specs::Word::put16))]
+fn start(word: u16) -> [u8; START_WORDS]
+    ensures { result ≡ start word }
+{
+    let mut words = [0u8; START_WORDS];
+    word::put16(&mut words, 0, word);
+    words
 }
 
 fn by_circuit(procedures: usize, program: &[u8], word: u16, budget: u32) -> Answer
     ensures { result ≡ (run_program_call (load (beside built_in procedures 1)) program.now (start word) budget (replicate 6656 0) (replicate 41480 0)).answer }
 {
-    let mut words = [0u8; START_WORDS];
-    word::put16(&mut words, 0, word);
     let mut netlist = [0u8; COMPILED_FILE];
     let mut state = [0u8; COMPILED_STATE];
     hub::run_program(
         hub::load_if(false, b"", procedures, 1),
         program,
-        &words,
+        &start(word),
         budget,
         &mut netlist,
         &mut state,
     )
 }
 
+#[tactic(auto, unfolding(model::specs::TimeTables::given_if))]
 fn by_rules(procedures: usize, program: &[u8], word: u16, budget: u32) -> Answer
     ensures { result ≡ reference_call (load (beside built_in procedures 1)) program.now (start word) budget }
 {
-    let mut words = [0u8; START_WORDS];
-    word::put16(&mut words, 0, word);
     hub::reference_run(
         hub::load_if(false, b"", procedures, 1),
         program,
-        &words,
+        &start(word),
         budget,
     )
+}
+
+fn bytes_of(a: Answer) -> [u8; reply::LENGTH]
+    ensures { result ≡ bytes_of a }
+{
+    let mut bytes = [0u8; reply::LENGTH];
+    reply::put(&mut bytes, reply::of_answer(a));
+    bytes
 }
 
 // Whether two answers are the same.
 fn same(a: Answer, b: Answer) -> bool
     ensures { result ≡ true → Same a b }
 {
-    let mut x = [0u8; 48];
-    reply::put(&mut x, reply::of_answer(a));
-    let mut y = [0u8; 48];
-    reply::put(&mut y, reply::of_answer(b));
+    let x = bytes_of(a);
+    let y = bytes_of(b);
     if x[0] == 2 {
         x[..16] == y[..16]
     } else {
@@ -106,11 +112,6 @@ fn same(a: Answer, b: Answer) -> bool
 pub fn holds(procedures: usize, program: &[u8], word: u16, budget: u32, wanted: Answer) -> bool
     ensures { result ≡ true → Holds procedures program.now word budget wanted }
 {
-    let circuit = by_circuit(procedures, program, word, budget);
-    if same(circuit, wanted) {
-        let rules = by_rules(procedures, program, word, budget);
-        same(rules, wanted)
-    } else {
-        false
-    }
+    same(by_circuit(procedures, program, word, budget), wanted)
+        && same(by_rules(procedures, program, word, budget), wanted)
 }

@@ -1,8 +1,9 @@
 // A row's line: its name, and the answer that circuit and rules gave, or "differs".
 use crate::rows;
-use model::{Answer, Outcome};
+use model::{Answer, Outcome, Refusal};
 use std::io;
 
+// A row's parts are parameters, and no struct: each of the thirty rows is a line, and fields would be named anew in each.
 pub fn row(
     rt: &impl Print,
     name: &str,
@@ -36,9 +37,7 @@ fn answer(rt: &impl Print, name: &str, wanted: Answer) -> io::Result<()> {
     match wanted.outcome {
         Outcome::Ended => println!(rt; "{name}: end {instant}"),
         Outcome::Open => println!(rt; "{name}: open {instant}"),
-        Outcome::Refused(refusal) => {
-            let number = refusal.number;
-            let place = refusal.place;
+        Outcome::Refused(Refusal { number, place }) => {
             println!(rt; "{name}: refused {number} {place}")
         }
     }

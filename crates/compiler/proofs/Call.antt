@@ -1,4 +1,6 @@
 -- The call that compiles, outcome by outcome: the answer, and the lent list afterwards. Assumes nothing.
+use Rattle.model.specs.Refusals.{Accepted}
+use Rattle.std.specs.Prelude.{Err}
 use mathlib.Core.List.{List}
 use mathlib.Core.Path.{◌≡◌, refl, sym, ◌∙◌}
 use Prim.Native.Nat.{ℕ, ◌*◌, ◌≤◌}
@@ -7,9 +9,6 @@ use lib.ListN.{length}
 use lib.Seq.{sets}
 use Rattle.model.specs.declared.Refusal.{Refusal}
 use Rattle.model.specs.declared.Options.{Options}
-use Rattle.model.specs.declared.Checked.{Checked}
-use Rattle.model.specs.declared.Checked.TheVariants.{Accepted}
-use Rattle.model.specs.declared.Written.{Written}
 use Rattle.model.specs.ProgramChecks.{program_with}
 use Rattle.model.specs.Numbering.{netlist, finish}
 use Rattle.model.specs.NetlistFile.{cells_at, in_list, file_of, blocks_for}
@@ -24,12 +23,13 @@ use Rattle.word.proofs.Puts.{overwrite-sets}
 use Rattle.laws.specs.NetlistFile.Files.{file-length}
 use Rattle.netlist.proofs.Calls.{Tells}
 use Rattle.program.specs.declared.Scanned.{Scanned}
-use Rattle.program.specs.Shape.{Scans, scanned-laid}
+use Rattle.model.specs.Program.{time_in}
+use Rattle.program.specs.Shape.{AllShaped, scanned-laid}
 use Rattle.compiler.specs.declared.whole.Netlist.{Netlist}
 use Rattle.compiler.specs.Whole.{Given, Made}
 
-pub scanned : (options : Options) {s : List ℕ} {r : Scanned} → Scans options s r → check_call options s ≡ Accepted → Given options.pulse options.procedures s r.ends 3762
-scanned options {s} {r} S e = record { options = options; pulse = refl; count = refl; accepted = e; laid = scanned-laid options s r S (S.checked ∙ e); size = refl }
+pub scanned : (options : Options) {s : List ℕ} {r : Scanned} → check_call options s ≡ Accepted → AllShaped (time_in options.times) s r → Given options.pulse options.procedures s r.ends 3762
+scanned options {s} {r} e S = record { options = options; pulse = refl; count = refl; accepted = e; laid = scanned-laid options s r e S; size = refl }
 
 module _ (options : Options) (s : List ℕ) {cells : List ℕ} {made : Netlist} (m : Made (program_with options s) cells made) where
   pub file-size : length (compiled_file options s) ≡ 512 * blocks_for made.count
@@ -54,7 +54,7 @@ module _ (options : Options) (s : List ℕ) {cells : List ℕ} {made : Netlist} 
     compile-writes lent =
         rw (m.cells, m.finish, first-drop 2 (compile_checks options s lent) e, ← first_one (short (length lent) (length (compiled_file options s)))) refl
 
-pub compile-refused : (options : Options) (s lent : List ℕ) {r : Refusal} → check_call options s ≡ Checked.Refused r
-    → Tells (Written.Refused r) lent (compile_call options s lent)
+pub compile-refused : (options : Options) (s lent : List ℕ) {r : Refusal} → check_call options s ≡ Err r
+    → Tells (Err r) lent (compile_call options s lent)
 unfolding compile_call writing check_call
 compile-refused options s lent e = rw (first-take 2 (compile_checks options s lent) e) (refl, refl)

@@ -1,12 +1,13 @@
 -- What a walk has put in since a place, run after run: delay cells, walk cells and marks, each behind the last. The kinds of statement are built of
 -- such steps. Assumes nothing.
 use mathlib.Core.Path.{◌≡◌, refl, sym, ◌∙◌, ap}
-use mathlib.Core.List.{List, [], ◌∷◌, ◌++◌}
+use mathlib.Core.List.{List, [], ◌∷◌, ◌++◌, append_assoc}
 use Prim.Native.Nat.{ℕ, ◌+◌, ◌*◌, ◌≤◌}
 use native.Mathlib.Omega.{arith}
 use native.Mathlib.Numerals.{towards_suc}
-use lib.ListN.{length, set, length-append}
-use lib.Seq.{sets}
+use lib.ListN.{length, set, take, drop, length-append}
+use lib.Seq.{sets, sets-eq, drop-drop}
+use borrow.Rule.Slice.PartMut.{put_mid}
 use Rattle.model.specs.declared.Cell.{Cell}
 use Rattle.model.specs.Program.{Code, ok, tick, assign, assign_elem, seq, par, ite, while, repeat, loop, exit, call}
 use Rattle.model.specs.Numbering.{memory_wires, if_delay_count, past_switches, delay_count, exit_count, walk_count, finish_wire, delays, walk}
@@ -53,6 +54,11 @@ marks-length (call δ p) d c = refl
 -- four marks put in one by one
 pub four-marks : (l : List ℕ) (k a b c d : ℕ) → set (set (set (set l k a) (k + 1) b) (k + 2) c) (k + 3) d ≡ sets l k (a ∷ b ∷ c ∷ d ∷ [])
 four-marks l k a b c d = simp towards_suc
+
+-- marks put over as many others
+pub marks-over : (ms ys new : List ℕ) (k : ℕ) {n : ℕ} → new ≡ ys → n ≡ length ys → k + length ys ≤ length ms → put_mid k n ms new ≡ sets ms k ys
+marks-over ms ys new k {n} e count h =
+    rw (e, count, drop-drop (length ys) k ms) (sym (sets-eq ys ms k h ∙ append_assoc (take k ms) ys (drop (k + length ys) ms)))
 
 -- Steps --------------------------------------------------------------------------------------------------------------------------------
 

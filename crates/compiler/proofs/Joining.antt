@@ -1,7 +1,7 @@
 -- The loops that join the wires of a variable, or of a procedure's callers, and those of all variables, and that put the memories and the arrays
 -- in: what is still to be done comes out as at the start. Assumes nothing.
 use mathlib.Core.Path.{◌≡◌, refl, sym, ◌∙◌, ap}
-use mathlib.Core.Bool.{Bool, true, false}
+use Rattle.std.specs.Prelude.{Option, Some, None, unwrap_or}
 use mathlib.Core.List.{List, [], ◌∷◌, ◌++◌, append-nil}
 use Prim.Native.Nat.{ℕ, zero, suc, ◌+◌, ◌-◌, ◌*◌, ◌≤◌, ◌<◌}
 use native.Mathlib.Omega.{arith}
@@ -25,30 +25,30 @@ use Rattle.compiler.proofs.Writes.{behind, write-none, write-append, write-lengt
 -- The wires of one variable ------------------------------------------------------------------------------------------------------------
 
 -- what is still to be done with some wires, where a first wire has been seen before them or not
-unfoldable pub rest : Bool → ℕ → ℕ → ℕ → List ℕ → List Cell
-rest true kind acc n ws = or_chain kind acc n ws
-rest false kind acc n ws = ors kind n ws
+unfoldable pub rest : ℕ → Option ℕ → ℕ → List ℕ → List Cell
+rest kind (Some acc) n ws = or_chain kind acc n ws
+rest kind None n ws = ors kind n ws
 
-unfoldable pub rest_out : Bool → ℕ → ℕ → List ℕ → ℕ
-rest_out true acc n ws = or_chain_out acc n ws
-rest_out false acc n ws = ors_out acc n ws
+unfoldable pub rest_out : ℕ → Option ℕ → ℕ → List ℕ → ℕ
+rest_out none (Some acc) n ws = or_chain_out acc n ws
+rest_out none None n ws = ors_out none n ws
 
-unfoldable pub rest_count : Bool → List ℕ → ℕ
-rest_count true ws = length ws
-rest_count false ws = or_count ws
+unfoldable pub rest_count : Option ℕ → List ℕ → ℕ
+rest_count (Some acc) ws = length ws
+rest_count None ws = or_count ws
 
 -- the wires of x from assignment or call k on
 abbrev pub wires_from : Joint → List ℕ → ℕ → ℕ → ℕ → List ℕ
 wires_from j ms count x k = wires_of x (sources_from j.mark ms k (count - k))
 
-pub record Chaining (j : Joint) (ms : List ℕ) (count x n : ℕ) (before cells : List ℕ) (seen : Bool) (acc next k : ℕ) : Type 0 where
-  pub cells_are : write next (rest seen j.kind acc next (wires_from j ms count x k)) cells ≡ write n (ors j.kind n (wires_of x (sources_from j.mark ms 0 count))) before
-  pub wire : rest_out seen acc next (wires_from j ms count x k) ≡ ors_out j.none n (wires_of x (sources_from j.mark ms 0 count))
-  pub cell : next + rest_count seen (wires_from j ms count x k) ≡ n + or_count (wires_of x (sources_from j.mark ms 0 count))
+pub record Chaining (j : Joint) (ms : List ℕ) (count x n : ℕ) (before cells : List ℕ) (so_far : Option ℕ) (next k : ℕ) : Type 0 where
+  pub cells_are : write next (rest j.kind so_far next (wires_from j ms count x k)) cells ≡ write n (ors j.kind n (wires_of x (sources_from j.mark ms 0 count))) before
+  pub wire : rest_out j.none so_far next (wires_from j ms count x k) ≡ ors_out j.none n (wires_of x (sources_from j.mark ms 0 count))
+  pub cell : next + rest_count so_far (wires_from j ms count x k) ≡ n + or_count (wires_of x (sources_from j.mark ms 0 count))
   pub same : length cells ≡ length before
 
 module _ (j : Joint) (ms : List ℕ) (count x n : ℕ) (before : List ℕ) where
-  pub chain-start : Chaining j ms count x n before before false j.none n 0
+  pub chain-start : Chaining j ms count x n before before None n 0
   unfolding rest rest_out rest_count
   chain-start = let e : count - 0 ≡ count = omega arith in record { cells_are = rw e; wire = rw e; cell = rw e; same = refl }
 
@@ -70,60 +70,57 @@ module _ (j : Joint) (ms : List ℕ) (count x n : ℕ) (before : List ℕ) where
       unfolding wires_of
       wires-same e = rw (sources-more, ne_eqb (get_or ms (4 * k) 0) x e)
 
-  module _ {cells : List ℕ} {acc next k : ℕ} where
-    module _ (h : k < count) where
-      pub chain-skip : {seen : Bool} → Chaining j ms count x n before cells seen acc next k → (get_or ms (4 * k) 0 ≡ x → ⊥)
-          → Chaining j ms count x n before cells seen acc next (k + 1)
-      chain-skip C e =
+  module _ {cells : List ℕ} {next k : ℕ} where
+    module _ {so_far : Option ℕ} (h : k < count) (C₀ : Chaining j ms count x n before cells so_far next k) where
+      pub chain-skip : (get_or ms (4 * k) 0 ≡ x → ⊥) → Chaining j ms count x n before cells so_far next (k + 1)
+      chain-skip e =
           let q = wires-same h e in
-          record { cells_are = rw q at C.cells_are; wire = rw q at C.wire; cell = rw q at C.cell; same = C.same }
+          record { cells_are = rw q at C₀.cells_are; wire = rw q at C₀.wire; cell = rw q at C₀.cell; same = C₀.same }
 
-      pub chain_first : {seen : Bool} → seen ≡ false → Chaining j ms count x n before cells seen acc next k → get_or ms (4 * k) 0 ≡ x
-          → Chaining j ms count x n before cells true (get_or ms (4 * k + j.mark) 0) next (k + 1)
-      unfolding rest rest_out rest_count ors ors_out or_count
-      chain_first s C₀ e =
-          let C = rw s at C₀ in
-          let q = wires-more h e in
-          record { cells_are = rw q at C.cells_are; wire = rw q at C.wire; cell = rw q at C.cell; same = C.same }
-
-      module _ {seen : Bool} (s : seen ≡ true) (C₀ : Chaining j ms count x n before cells seen acc next k) (e : get_or ms (4 * k) 0 ≡ x) where
-        pub chain-room : next + 1 ≤ n + or_count (wires_of x (sources_from j.mark ms 0 count))
-        unfolding rest_count
-        chain-room =
-            let C = rw s at C₀ in
-            let q = rw (wires-more h e) at C.cell in
-            omega (arith, q)
-
-        pub chain_more : {after : List ℕ} → after ≡ write next (cell j.kind 0 acc (get_or ms (4 * k + j.mark) 0) ∷ []) cells
-            → Chaining j ms count x n before after seen next (next + 1) (k + 1)
-        unfolding rest rest_out rest_count or_chain or_chain_out
-        chain_more w =
+      module _ (e : get_or ms (4 * k) 0 ≡ x) where
+        pub chain_first : so_far ≡ None → Chaining j ms count x n before cells (Some (get_or ms (4 * k + j.mark) 0)) next (k + 1)
+        unfolding rest rest_out rest_count ors ors_out or_count
+        chain_first s =
             let C = rw s at C₀ in
             let q = wires-more h e in
-            let y = cell j.kind 0 acc (get_or ms (4 * k + j.mark) 0) in
-            let Y = or_chain j.kind next (next + 1) (wires_from j ms count x (k + 1)) in
-            rw s
-            (record {
-              cells_are = ap (write (next + 1) Y) w ∙ write-append next (next + 1) (y ∷ []) Y cells refl ∙ (rw q at C.cells_are);
-              wire = rw q at C.wire;
-              cell = let z = rw q at C.cell in omega (arith, z);
-              same = ap length w ∙ write-length next (y ∷ []) cells ∙ C.same;
-            })
+            record { cells_are = rw q at C.cells_are; wire = rw q at C.wire; cell = rw q at C.cell; same = C.same }
 
-    pub chain-end : (seen : Bool) → Chaining j ms count x n before cells seen acc next k → count ≤ k
-        → Joined j n (wires_of x (sources_from j.mark ms 0 count)) before cells (record { wire = acc; cell = next })
+        module _ {acc : ℕ} (s : so_far ≡ Some acc) where
+          pub chain-room : next + 1 ≤ n + or_count (wires_of x (sources_from j.mark ms 0 count))
+          unfolding rest_count
+          chain-room =
+              let C = rw s at C₀ in
+              let q = rw (wires-more h e) at C.cell in
+              omega (arith, q)
+
+          pub chain_more : {after : List ℕ} → after ≡ write next (cell j.kind 0 acc (get_or ms (4 * k + j.mark) 0) ∷ []) cells
+              → Chaining j ms count x n before after (Some next) (next + 1) (k + 1)
+          unfolding rest rest_out rest_count or_chain or_chain_out
+          chain_more w =
+              let C = rw s at C₀ in
+              let q = wires-more h e in
+              let y = cell j.kind 0 acc (get_or ms (4 * k + j.mark) 0) in
+              let Y = or_chain j.kind next (next + 1) (wires_from j ms count x (k + 1)) in
+              record {
+                cells_are = ap (write (next + 1) Y) w ∙ write-append next (next + 1) (y ∷ []) Y cells refl ∙ (rw q at C.cells_are);
+                wire = rw q at C.wire;
+                cell = let z = rw q at C.cell in omega (arith, z);
+                same = ap length w ∙ write-length next (y ∷ []) cells ∙ C.same;
+              }
+
+    pub chain-end : (so_far : Option ℕ) → Chaining j ms count x n before cells so_far next k → count ≤ k
+        → Joined j n (wires_of x (sources_from j.mark ms 0 count)) before cells (record { wire = unwrap_or so_far j.none; cell = next })
     unfolding rest rest_out rest_count ors ors_out or_count or_chain or_chain_out wires_of
-    chain-end true C h =
+    chain-end (Some acc) C h =
         let e = sources-none h in
         record { cells = sym (write-none next cells) ∙ (rw e at C.cells_are); wire = rw e at C.wire; cell = omega (arith, rw e at C.cell) }
-    chain-end false C h =
+    chain-end None C h =
         let e = sources-none h in
         record { cells = sym (write-none next cells) ∙ (rw e at C.cells_are); wire = rw e at C.wire; cell = omega (arith, rw e at C.cell) }
 
 -- The wires of all variables -----------------------------------------------------------------------------------------------------------
 
 pub record Joining (j : Joint) (ps : List Source) (n : ℕ) (before cells wires : List ℕ) (next x : ℕ) : Type 0 where
-  pub far : x ≤ 20
   pub cells_are :
       write next (ors_from j.kind ps next x (20 - x)) cells ≡ write n (ors_from j.kind ps n j.first (20 - j.first)) before
   pub wires-are : drop j.first (sets wires x (outs_from j.none ps next x (20 - x))) ≡ outs_from j.none ps n j.first (20 - j.first)
@@ -144,7 +141,6 @@ module _ (j : Joint) (ps : List Source) (n : ℕ) (before : List ℕ) where
   joining-start wires l h =
       let o = outs-len j.none ps n j.first (20 - j.first) in
       record {
-        far = h;
         cells_are = refl;
         wires-are = drop-sets (outs_from j.none ps n j.first (20 - j.first)) wires j.first (omega (arith, o));
         cell = refl;
@@ -170,7 +166,6 @@ module _ (j : Joint) (ps : List Source) (n : ℕ) (before : List ℕ) where
           let Y = ors_from j.kind ps m (x + 1) (20 - (x + 1)) in
           rw (u.wire, u.cell)
           (record {
-            far = omega arith;
             cells_are =
                 ap (write m Y) u.cells
                 ∙ write-append next m (ors j.kind next W) Y cells (behind next (ors-len j.kind next W))

@@ -1,11 +1,13 @@
 -- What the walk reads off a node is so: `ExprNode` and `StmtNode`. Assumes nothing.
 use mathlib.Core.Path.{◌≡◌, refl}
 use mathlib.Core.List.{List}
-use Prim.Native.Nat.{ℕ, ◌≤◌, ◌<◌}
+use Prim.Native.Nat.{ℕ, ◌+◌, ◌≤◌, ◌<◌}
 use native.Mathlib.Omega.{arith}
 use Rattle.model.specs.declared.Node.{Node}
 use Rattle.model.specs.Program.{node_at, node_count}
 use Rattle.laws.specs.Program.Trees.{expr-none, stmt-none, no-expr, no-stmt, at-const, at_ok}
+use Rattle.program.specs.Ends.{Laid, past}
+use Rattle.program.proofs.Children.{Inner}
 use Rattle.compiler.specs.Nodes.{ExprNode, StmtNode}
 
 abbrev none : ℕ → Node
@@ -30,3 +32,11 @@ module _ (s : List ℕ) (i : ℕ) where
 
     pub stmt-read : 16 ≤ a.kind → StmtNode s i a
     stmt-read l = record { nothing = λ q. at_ok s i h a e q; here = λ n. (h, omega arith, e) }
+
+-- a node with children, of which the first ends before node j
+module _ {s ends : List ℕ} {i j : ℕ} {a : Node} (l : Laid s ends) where
+  pub inner-expr : ExprNode s i a → (a.kind ≡ 1 → ⊥) → j ≡ past ends (node_count s) (i + 1) → Inner s ends i a j
+  inner-expr u k e = let h = u.here k in record { laid = l; here = h.0; node = h.2; next = e }
+
+  pub inner-stmt : StmtNode s i a → (a.kind ≡ 16 → ⊥) → j ≡ past ends (node_count s) (i + 1) → Inner s ends i a j
+  inner-stmt u k e = let h = u.here k in record { laid = l; here = h.0; node = h.2; next = e }

@@ -1,8 +1,8 @@
 -- What the walk of a root, the walks of all roots and the parts of the whole netlist ask and leave. Assumes nothing: definitions.
+use Rattle.model.specs.Refusals.{Accepted}
 use Rattle.std.specs.Prelude.{◌≡◌, List, [], ◌∷◌, ◌++◌, ℕ, ◌+◌, ◌*◌, ◌≤◌, length, get_or, drop}
 use Rattle.std.proofs.lemmas.List.Edits.{sets}
 use Rattle.model.specs.declared.Options.{Options}
-use Rattle.model.specs.declared.Checked.TheVariants.{Accepted}
 use Rattle.model.specs.Program.{Code, Program, program_of, roots}
 use Rattle.model.specs.NetlistFile.{cells_at, in_list}
 use Rattle.model.specs.Numbering.{memory_wires, ors, ors_out, or_count, delay_count, walk_count, finish_wire, delays, walk, Source, wires_of, root_delay_count, root_walk, past_root, root_walk_count, root_finishes, root_delays, root_walks}

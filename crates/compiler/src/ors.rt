@@ -2,6 +2,7 @@
 // of each procedure's callers. Arrays are variables 16 to 19.
 // An assignment has four marks: its variable, its first delay cell, its kind 41 cells, of the value and of an element's index. So has a call:
 // 20 and the procedure, which is above every variable, its delay cell, and two that are never read.
+// The marks are numbers one after another, with their count beside: the joiner keeps the same, and what it passes on here may not change.
 ghost use Rattle.std.specs.Prelude.{◌≡◌, ◌+◌, ◌-◌, ◌*◌, ◌≤◌, length, drop};
 ghost use Rattle.model.specs.Numbering.{wires_of, or_count, or_count_from, memories_of, arrays_of};
 ghost use Rattle.compiler.specs.Writes.{write};
@@ -39,29 +40,23 @@ pub fn put_chain(
     ensures { Joined joint n (wires_of x (sources_from joint.mark marks.now 0 count)) cells.old cells.new result }
 {
     let mark = joint.mark;
-    let mut seen = false;
-    let mut so_far = joint.none;
+    let mut so_far: Option<u16> = None;
     let mut next = n;
-    let mut k: usize = 0;
-    while k < count {
+    for k in 0..count {
         if marks[4 * k] == x {
             let wire = marks[4 * k + mark];
-            if seen {
-                crate::walk::put(cells, next, joint.kind, 0, so_far, wire);
-                so_far = next;
-                next += 1;
-                k += 1;
-            } else {
-                so_far = wire;
-                seen = true;
-                k += 1;
+            match so_far {
+                None => so_far = Some(wire),
+                Some(a) => {
+                    crate::walk::put(cells, next, joint.kind, 0, a, wire);
+                    so_far = Some(next);
+                    next += 1;
+                }
             }
-        } else {
-            k += 1;
         }
     }
     Word {
-        wire: so_far,
+        wire: so_far.unwrap_or(joint.none),
         cell: next,
     }
 }
@@ -73,13 +68,11 @@ pub fn put_ors(cells: &mut [u8], marks: &[u16; 800], count: usize, joint: Joint,
 {
     let mut wires = [0u16; 20];
     let mut next = n;
-    let mut x = joint.first;
-    while x < 20 {
+    for x in joint.first..20 {
         let joined = put_chain(cells, marks, count, joint, x, next);
-        let at = x as usize;
+        let at = usize::from(x);
         wires[at] = joined.wire;
         next = joined.cell;
-        x += 1;
     }
     Ors { wires, next }
 }
@@ -89,11 +82,9 @@ pub fn put_memories(cells: &mut [u8], clocks: &[u16; 20], datas: &[u16; 20], mem
     requires { (memory + 24 ≤ 627) × (6 * (memory + 24) ≤ length cells.old) × (length clocks.now ≡ 20) × (length datas.now ≡ 20) }
     ensures { cells.new ≡ write memory (memories_of clocks.now datas.now 0 16) cells.old }
 {
-    let mut x: u16 = 0;
-    while x < 16 {
-        let at = x as usize;
+    for x in 0..16 {
+        let at = usize::from(x);
         crate::walk::put(cells, memory + x, 40, 0, clocks[at], datas[at]);
-        x += 1;
     }
 }
 
@@ -108,12 +99,10 @@ pub fn put_arrays(
     requires { (first + 8 ≤ 627) × (6 * (first + 8) ≤ length cells.old) × (length clocks.now ≡ 20) × (length datas.now ≡ 20) × (length addresses.now ≡ 20) }
     ensures { cells.new ≡ write first (arrays_of clocks.now datas.now (drop 16 addresses.now) 0 4) cells.old }
 {
-    let mut k: u8 = 0;
-    while k < 4 {
-        let at = 16 + k as usize;
-        let own = first + 2 * (k as u16);
+    for k in 0..4 {
+        let at = 16 + usize::from(k);
+        let own = first + 2 * u16::from(k);
         crate::walk::put(cells, own, 42, k, clocks[at], datas[at]);
         crate::walk::put(cells, own + 1, 43, 0, addresses[at], 0);
-        k += 1;
     }
 }

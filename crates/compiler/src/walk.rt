@@ -5,12 +5,13 @@ ghost use Rattle.std.specs.Prelude.{◌≡◌, [], ◌∷◌, ℕ, ◌+◌, ◌*
 ghost use Rattle.std.proofs.lemmas.List.Edits.{sets};
 ghost use Rattle.model.specs.Circuit.{cell};
 ghost use Rattle.model.specs.Numbering.{memory_wires};
-ghost use Rattle.model.specs.Program.{expr_at, stmt_at, assign, assign_elem, seq, par, ite, while, repeat, loop, exit};
-ghost use Rattle.program.specs.Ends.{Laid};
+ghost use Rattle.model.specs.Program.{assign, assign_elem, seq, par, ite, while, repeat, loop, exit};
+ghost use Rattle.compiler.specs.Nodes.{IsLaid, expr_in, stmt_in};
 ghost use Rattle.compiler.specs.Writes.{write};
 ghost use Rattle.compiler.specs.Walk.{word, place, ExprReady, ExprDone, Owned, SwitchReady, Switched, Ready, finish_in, Done, Opened, waiting, ExitsReady, ExitsJoined};
 
 use model::{Cell, Node};
+use program::nodes::Tree;
 
 // A wire, an expression's or the pulse that an if switches, and the next cell.
 #[derive(Clone, Copy)]
@@ -30,10 +31,11 @@ pub struct Place {
     pub out: usize,
 }
 
-// What the walk is to know of the netlist around it: the first memory, the length of a pulse, and the finish of each body that has been walked, for
-// the calls of it.
+// What the walk is to know: the program, the first memory of the netlist around it, the length of a pulse, and the finish of each body that has
+// been walked, for the calls of it.
 #[derive(Clone, Copy)]
-pub struct Known {
+pub struct Known<'a> {
+    pub tree: Tree<'a>,
     pub memory: u16,
     pub pulse: u8,
     pub finishes: [u16; 9],
@@ -72,40 +74,33 @@ pub fn put_word(cells: &mut [u8], k: u16, kind: u8, a: u16, b: u16) -> Word
 
 // The cells of the expression at node i, from cell c on: children, then its cell; a variable is its memory cell. An element's a is its array's
 // kind 42, which stands behind the sixteenth memory.
-fn put_expr(
-    cells: &mut [u8],
-    program: &[u8],
-    ends: &[usize; 200],
-    memory: u16,
-    i: usize,
-    c: u16,
-) -> Word
-    requires { Laid program.now ends.now × ExprReady memory (expr_at program.now i) c (length cells.old) }
-    ensures { ExprDone (memory_wires memory) (expr_at program.now i) c cells.old cells.new result }
+fn put_expr(cells: &mut [u8], known: &Known<'_>, i: usize, c: u16) -> Word
+    requires { IsLaid known.now.tree × ExprReady known.now.memory (expr_in known.now.tree i) c (length cells.old) }
+    ensures { ExprDone (memory_wires known.now.memory) (expr_in known.now.tree i) c cells.old cells.new result }
 {
-    let node = crate::nodes::expr_node(program, i);
+    let node = crate::nodes::expr_node(known.tree.program, i);
     let kind = node.kind;
     if kind == 1 {
         return put_word(cells, c, 1, node.n, 0);
     }
     if kind == 2 {
         return Word {
-            wire: memory + node.n,
+            wire: known.memory + node.n,
             cell: c,
         };
     }
     let first = i + 1;
     if kind == 3 {
-        let e = put_expr(cells, program, ends, memory, first, c);
+        let e = put_expr(cells, known, first, c);
         return put_word(cells, e.cell, 3, e.wire, 0);
     }
     if kind == 10 {
-        let e = put_expr(cells, program, ends, memory, first, c);
-        return put_word(cells, e.cell, 44, memory + 16 + 2 * node.n, e.wire);
+        let e = put_expr(cells, known, first, c);
+        return put_word(cells, e.cell, 44, known.memory + 16 + 2 * node.n, e.wire);
     }
-    let second = program::nodes::next(ends, program.len() / 4, first);
-    let e = put_expr(cells, program, ends, memory, first, c);
-    let f = put_expr(cells, program, ends, memory, second, e.cell);
+    let second = known.tree.next(first);
+    let e = put_expr(cells, known, first, c);
+    let f = put_expr(cells, known, second, e.cell);
     put_word(cells, f.cell, kind, e.wire, f.wire)
 }
 
@@ -128,19 +123,11 @@ pub fn put_own(cells: &mut [u8], delay: u8, start: u16, k: u16) -> Word
 }
 
 // A condition, and its 36 and 37; answers the 36.
-fn put_switches(
-    cells: &mut [u8],
-    program: &[u8],
-    ends: &[usize; 200],
-    memory: u16,
-    i: usize,
-    c: u16,
-    pulse: u16,
-) -> u16
-    requires { Laid program.now ends.now × SwitchReady memory (expr_at program.now i) c (length cells.old) }
-    ensures { Switched (memory_wires memory) (expr_at program.now i) c pulse cells.old cells.new result }
+fn put_switches(cells: &mut [u8], known: &Known<'_>, i: usize, c: u16, pulse: u16) -> u16
+    requires { IsLaid known.now.tree × SwitchReady known.now.memory (expr_in known.now.tree i) c (length cells.old) }
+    ensures { Switched (memory_wires known.now.memory) (expr_in known.now.tree i) c pulse cells.old cells.new result }
 {
-    let e = put_expr(cells, program, ends, memory, i, c);
+    let e = put_expr(cells, known, i, c);
     put(cells, e.cell, 36, 0, pulse, e.wire);
     put(cells, e.cell + 1, 37, 0, pulse, e.wire);
     e.cell
@@ -156,9 +143,7 @@ fn put_tick(cells: &mut [u8], at: Place, delay: u8) -> Place
     Place {
         wire: at.delay,
         delay: at.delay + 1,
-        cell: at.cell,
-        mark: at.mark,
-        out: at.out,
+        ..at
     }
 }
 
@@ -180,16 +165,13 @@ fn put_delays(
     put(cells, at.delay, 34, delay, at.wire, 0);
     put(cells, at.delay + 1, 34, pulse, at.delay, 0);
     let k = at.mark;
-    marks[k] = own.variable;
-    marks[k + 1] = at.delay;
-    marks[k + 2] = own.data;
-    marks[k + 3] = own.address;
+    marks[k..k + 4].copy_from_slice(&[own.variable, at.delay, own.data, own.address]);
     Place {
         wire: at.delay + 1,
         delay: at.delay + 2,
         cell: next,
         mark: k + 4,
-        out: at.out,
+        ..at
     }
 }
 
@@ -197,45 +179,39 @@ fn put_delays(
 fn put_assign(
     cells: &mut [u8],
     marks: &mut [u16; 800],
-    program: &[u8],
-    ends: &[usize; 200],
-    memory: u16,
+    known: &Known<'_>,
     first: usize,
     at: Place,
     node: Node,
-    pulse: u8,
 ) -> Place
-    requires { Laid program.now ends.now × Ready memory (assign node.delay node.n (expr_at program.now first)) at (length cells.old) }
-    ensures { (F : ℕ → ℕ) → Done pulse memory F (assign node.delay node.n (expr_at program.now first)) at cells.old cells.new marks.old marks.new result }
+    requires { IsLaid known.now.tree × Ready known.now.memory (assign node.delay node.n (expr_in known.now.tree first)) at (length cells.old) }
+    ensures { (F : ℕ → ℕ) → Done known.now.pulse known.now.memory F (assign node.delay node.n (expr_in known.now.tree first)) at cells.old cells.new marks.old marks.new result }
 {
-    let e = put_expr(cells, program, ends, memory, first, at.cell);
+    let e = put_expr(cells, known, first, at.cell);
     put(cells, e.cell, 41, 0, at.delay, e.wire);
     let own = Assigned {
         variable: node.n,
         data: e.cell,
         address: 0,
     };
-    put_delays(cells, marks, at, node.delay, own, e.cell + 1, pulse)
+    put_delays(cells, marks, at, node.delay, own, e.cell + 1, known.pulse)
 }
 
 // Index, value, then kind 41 of the value and of the index.
 fn put_element(
     cells: &mut [u8],
     marks: &mut [u16; 800],
-    program: &[u8],
-    ends: &[usize; 200],
-    memory: u16,
+    known: &Known<'_>,
     first: usize,
     second: usize,
     at: Place,
     node: Node,
-    pulse: u8,
 ) -> Place
-    requires { Laid program.now ends.now × Ready memory (assign_elem node.delay node.n (expr_at program.now first) (expr_at program.now second)) at (length cells.old) }
-    ensures { (F : ℕ → ℕ) → Done pulse memory F (assign_elem node.delay node.n (expr_at program.now first) (expr_at program.now second)) at cells.old cells.new marks.old marks.new result }
+    requires { IsLaid known.now.tree × Ready known.now.memory (assign_elem node.delay node.n (expr_in known.now.tree first) (expr_in known.now.tree second)) at (length cells.old) }
+    ensures { (F : ℕ → ℕ) → Done known.now.pulse known.now.memory F (assign_elem node.delay node.n (expr_in known.now.tree first) (expr_in known.now.tree second)) at cells.old cells.new marks.old marks.new result }
 {
-    let index = put_expr(cells, program, ends, memory, first, at.cell);
-    let value = put_expr(cells, program, ends, memory, second, index.cell);
+    let index = put_expr(cells, known, first, at.cell);
+    let value = put_expr(cells, known, second, index.cell);
     let address = value.cell + 1;
     put(cells, value.cell, 41, 0, at.delay, value.wire);
     put(cells, address, 41, 0, at.delay, index.wire);
@@ -244,7 +220,7 @@ fn put_element(
         data: value.cell,
         address,
     };
-    put_delays(cells, marks, at, node.delay, own, address + 1, pulse)
+    put_delays(cells, marks, at, node.delay, own, address + 1, known.pulse)
 }
 
 // An exit's start waits for the end of its loop; its finish is ground.
@@ -257,10 +233,8 @@ fn put_exit(outs: &mut [u16; 200], at: Place) -> Place
     outs[k] = at.wire;
     Place {
         wire: 1,
-        delay: at.delay,
-        cell: at.cell,
-        mark: at.mark,
         out: k + 1,
+        ..at
     }
 }
 
@@ -274,12 +248,10 @@ fn put_exits(cells: &mut [u8], outs: &[u16; 200], first: usize, end: usize, n: u
     }
     let mut so_far = outs[first];
     let mut next = n;
-    let mut k = first + 1;
-    while k < end {
-        put(cells, next, 35, 0, so_far, outs[k]);
+    for start in &outs[first + 1..end] {
+        put(cells, next, 35, 0, so_far, *start);
         so_far = next;
         next += 1;
-        k += 1;
     }
     Word {
         wire: so_far,
@@ -289,9 +261,15 @@ fn put_exits(cells: &mut [u8], outs: &[u16; 200], first: usize, end: usize, n: u
 
 // A call: its delay cell, kind 39 of that and the body's finish, which is the call's own, and its marks, of which the variable is 20 and the
 // procedure.
-fn put_call(cells: &mut [u8], marks: &mut [u16; 800], known: Known, at: Place, node: Node) -> Place
+fn put_call(
+    cells: &mut [u8],
+    marks: &mut [u16; 800],
+    known: &Known<'_>,
+    at: Place,
+    node: Node,
+) -> Place
     requires { (at.delay < at.cell) × (6 * at.cell + 6 ≤ length cells.old) × (length cells.old ≤ 3762) × (at.mark + 4 ≤ 800) × (node.n < 8) }
-    ensures cells { cells.new ≡ write at.cell (cell 39 0 at.delay (finish_in known.finishes node.n) ∷ []) (write at.delay (cell 34 node.delay at.wire 0 ∷ []) cells.old) }
+    ensures cells { cells.new ≡ write at.cell (cell 39 0 at.delay (finish_in known.now.finishes node.n) ∷ []) (write at.delay (cell 34 node.delay at.wire 0 ∷ []) cells.old) }
     ensures marks { marks.new ≡ sets marks.old at.mark ((20 + node.n) ∷ at.delay ∷ 0 ∷ 0 ∷ []) }
     ensures place { result ≡ place at.cell (at.delay + 1) (at.cell + 1) (at.mark + 4) at.out }
 {
@@ -299,16 +277,13 @@ fn put_call(cells: &mut [u8], marks: &mut [u16; 800], known: Known, at: Place, n
     put(cells, at.delay, 34, node.delay, at.wire, 0);
     put(cells, at.cell, 39, 0, at.delay, known.finishes[p]);
     let k = at.mark;
-    marks[k] = 20 + node.n;
-    marks[k + 1] = at.delay;
-    marks[k + 2] = 0;
-    marks[k + 3] = 0;
+    marks[k..k + 4].copy_from_slice(&[20 + node.n, at.delay, 0, 0]);
     Place {
         wire: at.cell,
         delay: at.delay + 1,
         cell: at.cell + 1,
         mark: k + 4,
-        out: at.out,
+        ..at
     }
 }
 
@@ -318,17 +293,15 @@ pub fn put_stmt(
     cells: &mut [u8],
     marks: &mut [u16; 800],
     outs: &mut [u16; 200],
-    program: &[u8],
-    ends: &[usize; 200],
-    known: Known,
+    known: &Known<'_>,
     i: usize,
     at: Place,
 ) -> Place
-    requires { Laid program.now ends.now × Ready known.memory (stmt_at program.now i) at (length cells.old) × (length outs.old ≡ 200) }
-    ensures done { Done known.pulse known.memory (finish_in known.finishes) (stmt_at program.now i) at cells.old cells.new marks.old marks.new result }
-    ensures outs { Opened (stmt_at program.now i) at outs.old outs.new }
+    requires { IsLaid known.now.tree × Ready known.now.memory (stmt_in known.now.tree i) at (length cells.old) × (length outs.old ≡ 200) }
+    ensures done { Done known.now.pulse known.now.memory (finish_in known.now.finishes) (stmt_in known.now.tree i) at cells.old cells.new marks.old marks.new result }
+    ensures outs { Opened (stmt_in known.now.tree i) at outs.old outs.new }
 {
-    let node = crate::nodes::stmt_node(program, i);
+    let node = crate::nodes::stmt_node(known.tree.program, i);
     let kind = node.kind;
     if kind == 16 {
         return at;
@@ -337,44 +310,22 @@ pub fn put_stmt(
         return put_tick(cells, at, node.delay);
     }
     let d = node.delay;
-    let count = program.len() / 4;
     let i1 = i + 1;
-    let i2 = program::nodes::next(ends, count, i1);
+    let i2 = known.tree.next(i1);
     match kind {
-        18 => put_assign(
-            cells,
-            marks,
-            program,
-            ends,
-            known.memory,
-            i1,
-            at,
-            node,
-            known.pulse,
-        ),
-        19 => put_seq(cells, marks, outs, program, ends, known, i1, i2, at),
-        20 => put_par(cells, marks, outs, program, ends, known, i1, i2, at),
+        18 => put_assign(cells, marks, known, i1, at, node),
+        19 => put_seq(cells, marks, outs, known, i1, i2, at),
+        20 => put_par(cells, marks, outs, known, i1, i2, at),
         21 => {
-            let i3 = program::nodes::next(ends, count, i2);
-            put_if(cells, marks, outs, program, ends, known, i1, i2, i3, at, d)
+            let i3 = known.tree.next(i2);
+            put_if(cells, marks, outs, known, i1, i2, i3, at, d)
         }
-        22 => put_while(cells, marks, outs, program, ends, known, i1, i2, at, d),
-        24 => put_element(
-            cells,
-            marks,
-            program,
-            ends,
-            known.memory,
-            i1,
-            i2,
-            at,
-            node,
-            known.pulse,
-        ),
-        25 => put_loop(cells, marks, outs, program, ends, known, i1, at, d),
+        22 => put_while(cells, marks, outs, known, i1, i2, at, d),
+        24 => put_element(cells, marks, known, i1, i2, at, node),
+        25 => put_loop(cells, marks, outs, known, i1, at, d),
         26 => put_exit(outs, at),
         27 => put_call(cells, marks, known, at, node),
-        _ => put_repeat(cells, marks, outs, program, ends, known, i1, i2, at, d),
+        _ => put_repeat(cells, marks, outs, known, i1, i2, at, d),
     }
 }
 
@@ -384,19 +335,17 @@ fn put_seq(
     cells: &mut [u8],
     marks: &mut [u16; 800],
     outs: &mut [u16; 200],
-    program: &[u8],
-    ends: &[usize; 200],
-    known: Known,
+    known: &Known<'_>,
     first: usize,
     second: usize,
     at: Place,
 ) -> Place
-    requires { Laid program.now ends.now × Ready known.memory (seq (stmt_at program.now first) (stmt_at program.now second)) at (length cells.old) × (first ≤ second) × (length outs.old ≡ 200) }
-    ensures done { Done known.pulse known.memory (finish_in known.finishes) (seq (stmt_at program.now first) (stmt_at program.now second)) at cells.old cells.new marks.old marks.new result }
-    ensures outs { Opened (seq (stmt_at program.now first) (stmt_at program.now second)) at outs.old outs.new }
+    requires { IsLaid known.now.tree × Ready known.now.memory (seq (stmt_in known.now.tree first) (stmt_in known.now.tree second)) at (length cells.old) × (first ≤ second) × (length outs.old ≡ 200) }
+    ensures done { Done known.now.pulse known.now.memory (finish_in known.now.finishes) (seq (stmt_in known.now.tree first) (stmt_in known.now.tree second)) at cells.old cells.new marks.old marks.new result }
+    ensures outs { Opened (seq (stmt_in known.now.tree first) (stmt_in known.now.tree second)) at outs.old outs.new }
 {
-    let p = put_stmt(cells, marks, outs, program, ends, known, first, at);
-    put_stmt(cells, marks, outs, program, ends, known, second, p)
+    let p = put_stmt(cells, marks, outs, known, first, at);
+    put_stmt(cells, marks, outs, known, second, p)
 }
 
 // P, Q, 38.
@@ -405,33 +354,23 @@ fn put_par(
     cells: &mut [u8],
     marks: &mut [u16; 800],
     outs: &mut [u16; 200],
-    program: &[u8],
-    ends: &[usize; 200],
-    known: Known,
+    known: &Known<'_>,
     first: usize,
     second: usize,
     at: Place,
 ) -> Place
-    requires { Laid program.now ends.now × Ready known.memory (par (stmt_at program.now first) (stmt_at program.now second)) at (length cells.old) × (first ≤ second) × (length outs.old ≡ 200) }
-    ensures done { Done known.pulse known.memory (finish_in known.finishes) (par (stmt_at program.now first) (stmt_at program.now second)) at cells.old cells.new marks.old marks.new result }
-    ensures outs { Opened (par (stmt_at program.now first) (stmt_at program.now second)) at outs.old outs.new }
+    requires { IsLaid known.now.tree × Ready known.now.memory (par (stmt_in known.now.tree first) (stmt_in known.now.tree second)) at (length cells.old) × (first ≤ second) × (length outs.old ≡ 200) }
+    ensures done { Done known.now.pulse known.now.memory (finish_in known.now.finishes) (par (stmt_in known.now.tree first) (stmt_in known.now.tree second)) at cells.old cells.new marks.old marks.new result }
+    ensures outs { Opened (par (stmt_in known.now.tree first) (stmt_in known.now.tree second)) at outs.old outs.new }
 {
-    let p = put_stmt(cells, marks, outs, program, ends, known, first, at);
-    let to = Place {
-        wire: at.wire,
-        delay: p.delay,
-        cell: p.cell,
-        mark: p.mark,
-        out: p.out,
-    };
-    let q = put_stmt(cells, marks, outs, program, ends, known, second, to);
+    let p = put_stmt(cells, marks, outs, known, first, at);
+    let to = Place { wire: at.wire, ..p };
+    let q = put_stmt(cells, marks, outs, known, second, to);
     put(cells, q.cell, 38, 0, p.wire, q.wire);
     Place {
         wire: q.cell,
-        delay: q.delay,
         cell: q.cell + 1,
-        mark: q.mark,
-        out: q.out,
+        ..q
     }
 }
 
@@ -441,44 +380,36 @@ fn put_if(
     cells: &mut [u8],
     marks: &mut [u16; 800],
     outs: &mut [u16; 200],
-    program: &[u8],
-    ends: &[usize; 200],
-    known: Known,
+    known: &Known<'_>,
     first: usize,
     second: usize,
     third: usize,
     at: Place,
     delay: u8,
 ) -> Place
-    requires { Laid program.now ends.now × Ready known.memory (ite delay (expr_at program.now first) (stmt_at program.now second) (stmt_at program.now third)) at (length cells.old) × (second ≤ third) × (length outs.old ≡ 200) }
-    ensures done { Done known.pulse known.memory (finish_in known.finishes) (ite delay (expr_at program.now first) (stmt_at program.now second) (stmt_at program.now third)) at cells.old cells.new marks.old marks.new result }
-    ensures outs { Opened (ite delay (expr_at program.now first) (stmt_at program.now second) (stmt_at program.now third)) at outs.old outs.new }
+    requires { IsLaid known.now.tree × Ready known.now.memory (ite delay (expr_in known.now.tree first) (stmt_in known.now.tree second) (stmt_in known.now.tree third)) at (length cells.old) × (second ≤ third) × (length outs.old ≡ 200) }
+    ensures done { Done known.now.pulse known.now.memory (finish_in known.now.finishes) (ite delay (expr_in known.now.tree first) (stmt_in known.now.tree second) (stmt_in known.now.tree third)) at cells.old cells.new marks.old marks.new result }
+    ensures outs { Opened (ite delay (expr_in known.now.tree first) (stmt_in known.now.tree second) (stmt_in known.now.tree third)) at outs.old outs.new }
 {
     let own = put_own(cells, delay, at.wire, at.delay);
-    let switch = put_switches(cells, program, ends, known.memory, first, at.cell, own.wire);
+    let switch = put_switches(cells, known, first, at.cell, own.wire);
     let when_true = Place {
         wire: switch,
         delay: own.cell,
         cell: switch + 1 + 1,
-        mark: at.mark,
-        out: at.out,
+        ..at
     };
-    let p = put_stmt(cells, marks, outs, program, ends, known, second, when_true);
+    let p = put_stmt(cells, marks, outs, known, second, when_true);
     let when_false = Place {
         wire: switch + 1,
-        delay: p.delay,
-        cell: p.cell,
-        mark: p.mark,
-        out: p.out,
+        ..p
     };
-    let q = put_stmt(cells, marks, outs, program, ends, known, third, when_false);
+    let q = put_stmt(cells, marks, outs, known, third, when_false);
     put(cells, q.cell, 35, 0, p.wire, q.wire);
     Place {
         wire: q.cell,
-        delay: q.delay,
         cell: q.cell + 1,
-        mark: q.mark,
-        out: q.out,
+        ..q
     }
 }
 
@@ -488,35 +419,30 @@ fn put_while(
     cells: &mut [u8],
     marks: &mut [u16; 800],
     outs: &mut [u16; 200],
-    program: &[u8],
-    ends: &[usize; 200],
-    known: Known,
+    known: &Known<'_>,
     first: usize,
     second: usize,
     at: Place,
     delay: u8,
 ) -> Place
-    requires { Laid program.now ends.now × Ready known.memory (while delay (expr_at program.now first) (stmt_at program.now second)) at (length cells.old) × (length outs.old ≡ 200) }
-    ensures done { Done known.pulse known.memory (finish_in known.finishes) (while delay (expr_at program.now first) (stmt_at program.now second)) at cells.old cells.new marks.old marks.new result }
-    ensures outs { Opened (while delay (expr_at program.now first) (stmt_at program.now second)) at outs.old outs.new }
+    requires { IsLaid known.now.tree × Ready known.now.memory (while delay (expr_in known.now.tree first) (stmt_in known.now.tree second)) at (length cells.old) × (length outs.old ≡ 200) }
+    ensures done { Done known.now.pulse known.now.memory (finish_in known.now.finishes) (while delay (expr_in known.now.tree first) (stmt_in known.now.tree second)) at cells.old cells.new marks.old marks.new result }
+    ensures outs { Opened (while delay (expr_in known.now.tree first) (stmt_in known.now.tree second)) at outs.old outs.new }
 {
-    let switch = put_switches(cells, program, ends, known.memory, first, at.cell, at.delay);
+    let switch = put_switches(cells, known, first, at.cell, at.delay);
     let body = Place {
         wire: switch,
         delay: at.delay + 1,
         cell: switch + 1 + 1,
-        mark: at.mark,
-        out: at.out,
+        ..at
     };
-    let p = put_stmt(cells, marks, outs, program, ends, known, second, body);
+    let p = put_stmt(cells, marks, outs, known, second, body);
     put(cells, p.cell, 35, 0, at.wire, p.wire);
     put(cells, at.delay, 34, delay, p.cell, 0);
     Place {
         wire: switch + 1,
-        delay: p.delay,
         cell: p.cell + 1,
-        mark: p.mark,
-        out: p.out,
+        ..p
     }
 }
 
@@ -526,37 +452,28 @@ fn put_repeat(
     cells: &mut [u8],
     marks: &mut [u16; 800],
     outs: &mut [u16; 200],
-    program: &[u8],
-    ends: &[usize; 200],
-    known: Known,
+    known: &Known<'_>,
     first: usize,
     second: usize,
     at: Place,
     delay: u8,
 ) -> Place
-    requires { Laid program.now ends.now × Ready known.memory (repeat delay (expr_at program.now first) (stmt_at program.now second)) at (length cells.old) × (length outs.old ≡ 200) }
-    ensures done { Done known.pulse known.memory (finish_in known.finishes) (repeat delay (expr_at program.now first) (stmt_at program.now second)) at cells.old cells.new marks.old marks.new result }
-    ensures outs { Opened (repeat delay (expr_at program.now first) (stmt_at program.now second)) at outs.old outs.new }
+    requires { IsLaid known.now.tree × Ready known.now.memory (repeat delay (expr_in known.now.tree first) (stmt_in known.now.tree second)) at (length cells.old) × (length outs.old ≡ 200) }
+    ensures done { Done known.now.pulse known.now.memory (finish_in known.now.finishes) (repeat delay (expr_in known.now.tree first) (stmt_in known.now.tree second)) at cells.old cells.new marks.old marks.new result }
+    ensures outs { Opened (repeat delay (expr_in known.now.tree first) (stmt_in known.now.tree second)) at outs.old outs.new }
 {
-    let switch = put_switches(cells, program, ends, known.memory, first, at.cell, at.delay);
+    let switch = put_switches(cells, known, first, at.cell, at.delay);
     let start = switch + 1 + 1;
     put(cells, start, 35, 0, at.wire, switch + 1);
     let body = Place {
         wire: start,
         delay: at.delay + 1,
         cell: start + 1,
-        mark: at.mark,
-        out: at.out,
+        ..at
     };
-    let p = put_stmt(cells, marks, outs, program, ends, known, second, body);
+    let p = put_stmt(cells, marks, outs, known, second, body);
     put(cells, at.delay, 34, delay, p.wire, 0);
-    Place {
-        wire: switch,
-        delay: p.delay,
-        cell: p.cell,
-        mark: p.mark,
-        out: p.out,
-    }
+    Place { wire: switch, ..p }
 }
 
 // 35 of start and the delay (starts P), P, whose finish feeds the delay, then the starts of its exits joined by 35s.
@@ -565,33 +482,29 @@ fn put_loop(
     cells: &mut [u8],
     marks: &mut [u16; 800],
     outs: &mut [u16; 200],
-    program: &[u8],
-    ends: &[usize; 200],
-    known: Known,
+    known: &Known<'_>,
     first: usize,
     at: Place,
     delay: u8,
 ) -> Place
-    requires { Laid program.now ends.now × Ready known.memory (loop delay (stmt_at program.now first)) at (length cells.old) × (length outs.old ≡ 200) }
-    ensures done { Done known.pulse known.memory (finish_in known.finishes) (loop delay (stmt_at program.now first)) at cells.old cells.new marks.old marks.new result }
-    ensures outs { Opened (loop delay (stmt_at program.now first)) at outs.old outs.new }
+    requires { IsLaid known.now.tree × Ready known.now.memory (loop delay (stmt_in known.now.tree first)) at (length cells.old) × (length outs.old ≡ 200) }
+    ensures done { Done known.now.pulse known.now.memory (finish_in known.now.finishes) (loop delay (stmt_in known.now.tree first)) at cells.old cells.new marks.old marks.new result }
+    ensures outs { Opened (loop delay (stmt_in known.now.tree first)) at outs.old outs.new }
 {
     put(cells, at.cell, 35, 0, at.wire, at.delay);
     let body = Place {
         wire: at.cell,
         delay: at.delay + 1,
         cell: at.cell + 1,
-        mark: at.mark,
-        out: at.out,
+        ..at
     };
-    let round = put_stmt(cells, marks, outs, program, ends, known, first, body);
+    let round = put_stmt(cells, marks, outs, known, first, body);
     put(cells, at.delay, 34, delay, round.wire, 0);
     let joined = put_exits(cells, outs, at.out, round.out, round.cell);
     Place {
         wire: joined.wire,
-        delay: round.delay,
         cell: joined.cell,
-        mark: round.mark,
         out: at.out,
+        ..round
     }
 }

@@ -4,14 +4,23 @@
 // netlist: it begins at cell 203, since a program of 200 nodes has at most 200 delay cells; and it stays below cell 627, the most that a netlist
 // has, since no walk has more than 400.
 ghost use Rattle.std.specs.Prelude.{◌≡◌, List, [], ℕ, ◌≤◌, length};
-ghost use Rattle.model.specs.Program.{Program, stmt_at, program_of};
+ghost use Rattle.model.specs.Program.{Program, program_of};
 ghost use Rattle.model.specs.Numbering.{Source, idle_start, calls_of, memory_at};
-ghost use Rattle.program.specs.Ends.{Laid};
 ghost use Rattle.compiler.specs.Walk.{finish_in};
+ghost use Rattle.compiler.specs.Nodes.{IsLaid, stmt_in};
 ghost use Rattle.compiler.specs.Whole.{Given, callers_of, Told, RootReady, RootDone, RootsReady, RootsDone, Put, FirstPut, LastPut, Clocked, Walked, Closing, Closable, Made};
 
 use crate::ors::Joint;
 use crate::walk::{Known, Place};
+use program::nodes::Tree;
+
+// A program, how many procedures it has, and the length of a pulse.
+#[derive(Clone, Copy)]
+pub struct Input<'a> {
+    pub tree: Tree<'a>,
+    pub procedures: usize,
+    pub pulse: u8,
+}
 
 // What the first walk and the clock ors leave: each variable's clock wire, the first memory, and how many assignments and calls there are.
 #[derive(Clone, Copy)]
@@ -56,14 +65,12 @@ fn put_root(
     outs: &mut [u16; 200],
     callers: &[u16; 800],
     count: usize,
-    program: &[u8],
-    ends: &[usize; 200],
-    known: Known,
+    known: &Known<'_>,
     root: Root,
     at: Place,
 ) -> Place
-    requires { Laid program.now ends.now × RootReady known.memory (callers_of callers.now count root.number) count (stmt_at program.now root.node) at (length cells.old) × (length outs.old ≡ 200) × (root.number ≤ 8) }
-    ensures done { RootDone known.pulse known.memory (finish_in known.finishes) root.idle (callers_of callers.now count root.number) (stmt_at program.now root.node) at cells.old cells.new marks.old marks.new result }
+    requires { IsLaid known.now.tree × RootReady known.now.memory (callers_of callers.now count root.number) count (stmt_in known.now.tree root.node) at (length cells.old) × (length outs.old ≡ 200) × (root.number ≤ 8) }
+    ensures done { RootDone known.now.pulse known.now.memory (finish_in known.now.finishes) root.idle (callers_of callers.now count root.number) (stmt_in known.now.tree root.node) at cells.old cells.new marks.old marks.new result }
     ensures outs { length outs.new ≡ 200 }
 {
     let joint = Joint {
@@ -75,12 +82,11 @@ fn put_root(
     let start = crate::ors::put_chain(cells, callers, count, joint, 20 + root.number, at.cell);
     let from = Place {
         wire: start.wire,
-        delay: at.delay,
         cell: start.cell,
-        mark: at.mark,
         out: 0,
+        ..at
     };
-    crate::walk::put_stmt(cells, marks, outs, program, ends, known, root.node, from)
+    crate::walk::put_stmt(cells, marks, outs, known, root.node, from)
 }
 
 // The start of a root that nobody calls: ground, and of the main program, the last root, cell 0.
@@ -97,18 +103,19 @@ fn put_roots(
     marks: &mut [u16; 800],
     callers: &[u16; 800],
     count: usize,
-    program: &[u8],
-    ends: &[usize; 200],
-    procedures: usize,
+    input: &Input<'_>,
     memory: u16,
-    pulse: u8,
 ) -> Place
-    requires { RootsReady pulse procedures program.now ends.now callers.now count memory (length cells.old) }
-    ensures { (cs : List Source) → Told cs callers.now count → RootsDone (program_of pulse procedures program.now) cs memory cells.old cells.new marks.old marks.new result }
+    requires { RootsReady input.now.pulse input.now.procedures input.now.tree.program.now input.now.tree.ends.now callers.now count memory (length cells.old) }
+    ensures { (cs : List Source) → Told cs callers.now count → RootsDone (program_of input.now.pulse input.now.procedures input.now.tree.program.now) cs memory cells.old cells.new marks.old marks.new result }
 {
     let mut outs = [0u16; 200];
-    let mut finishes = [0u16; 9];
-    let nodes = program.len() / 4;
+    let mut known = Known {
+        tree: input.tree,
+        memory,
+        pulse: input.pulse,
+        finishes: [0; 9],
+    };
     let mut at = Place {
         wire: 0,
         delay: 3,
@@ -116,23 +123,14 @@ fn put_roots(
         mark: 0,
         out: 0,
     };
-    let mut r: usize = 0;
-    while r <= procedures {
+    for r in 0..=input.procedures {
         let root = Root {
             number: r as u16,
-            node: program::nodes::skip(ends, nodes, 0, r),
-            idle: idle_start(r, procedures),
+            node: input.tree.skip(0, r),
+            idle: idle_start(r, input.procedures),
         };
-        let known = Known {
-            memory,
-            pulse,
-            finishes,
-        };
-        at = put_root(
-            cells, marks, &mut outs, callers, count, program, ends, known, root, at,
-        );
-        finishes[r] = at.wire;
-        r += 1;
+        at = put_root(cells, marks, &mut outs, callers, count, &known, root, at);
+        known.finishes[r] = at.wire;
     }
     at
 }
@@ -216,21 +214,12 @@ pub fn close(cells: &mut [u8], clocks: Clocks, walked: Finished) -> Netlist
 }
 
 // The first walk, with no callers, and the clock ors by its marks, which are left for the second. Behind memory 179 it begins at cell 203.
-fn put_clocks(
-    cells: &mut [u8],
-    callers: &mut [u16; 800],
-    program: &[u8],
-    ends: &[usize; 200],
-    procedures: usize,
-    pulse: u8,
-) -> Clocks
-    requires { Given pulse procedures program.now ends.now (length cells.old) × (length callers.old ≡ 800) }
-    ensures { Clocked (program_of pulse procedures program.now) callers.new cells.new result }
+fn put_clocks(cells: &mut [u8], callers: &mut [u16; 800], input: &Input<'_>) -> Clocks
+    requires { Given input.now.pulse input.now.procedures input.now.tree.program.now input.now.tree.ends.now (length cells.old) × (length callers.old ≡ 800) }
+    ensures { Clocked (program_of input.now.pulse input.now.procedures input.now.tree.program.now) callers.new cells.new result }
 {
     let nobody = [0u16; 800];
-    let first = put_roots(
-        cells, callers, &nobody, 0, program, ends, procedures, 179, pulse,
-    );
+    let first = put_roots(cells, callers, &nobody, 0, input, 179);
     join_clocks(cells, callers, first)
 }
 
@@ -239,19 +228,14 @@ fn put_walk(
     cells: &mut [u8],
     callers: &[u16; 800],
     count: usize,
-    program: &[u8],
-    ends: &[usize; 200],
-    procedures: usize,
+    input: &Input<'_>,
     memory: u16,
-    pulse: u8,
 ) -> Finished
-    requires { Given pulse procedures program.now ends.now (length cells.old) × (memory ≡ memory_at (program_of pulse procedures program.now)) × Told (calls_of (program_of pulse procedures program.now)) callers.now count }
-    ensures { Walked (program_of pulse procedures program.now) cells.old cells.new result }
+    requires { Given input.now.pulse input.now.procedures input.now.tree.program.now input.now.tree.ends.now (length cells.old) × (memory ≡ memory_at (program_of input.now.pulse input.now.procedures input.now.tree.program.now)) × Told (calls_of (program_of input.now.pulse input.now.procedures input.now.tree.program.now)) callers.now count }
+    ensures { Walked (program_of input.now.pulse input.now.procedures input.now.tree.program.now) cells.old cells.new result }
 {
     let mut marks = [0u16; 800];
-    let end = put_roots(
-        cells, &mut marks, callers, count, program, ends, procedures, memory, pulse,
-    );
+    let end = put_roots(cells, &mut marks, callers, count, input, memory);
     join_words(cells, &marks, end)
 }
 
@@ -266,17 +250,13 @@ pub fn put_netlist(
     requires { Given pulse procedures program.now ends.now (length cells.old) }
     ensures { Made (program_of pulse procedures program.now) cells.new result }
 {
-    let mut callers = [0u16; 800];
-    let clocks = put_clocks(cells, &mut callers, program, ends, procedures, pulse);
-    let walked = put_walk(
-        cells,
-        &callers,
-        clocks.count,
-        program,
-        ends,
+    let input = Input {
+        tree: Tree { program, ends },
         procedures,
-        clocks.memory,
         pulse,
-    );
+    };
+    let mut callers = [0u16; 800];
+    let clocks = put_clocks(cells, &mut callers, &input);
+    let walked = put_walk(cells, &callers, clocks.count, &input, clocks.memory);
     close(cells, clocks, walked)
 }

@@ -21,7 +21,7 @@ fn schedule(
     let d = f / 65536 % 256;
     if d == 0 {
         let side = (f / 16777216) as u8;
-        held[j] = held[j] | side;
+        held[j] |= side;
         let at = 131072 + j;
         sets::put(wheel, at);
         return;
@@ -46,11 +46,7 @@ pub fn propagate(
 {
     let start = from[c] as usize;
     let end = from[c + 1] as usize;
-    let n = end - start;
-    let mut k: usize = 0;
-    while k < n {
-        let f = entries[start + k];
-        schedule(wheel, tag, occupied, held, width, u, f);
-        k += 1;
+    for f in &entries[start..end] {
+        schedule(wheel, tag, occupied, held, width, u, *f);
     }
 }

@@ -11,7 +11,7 @@ pub fn put(set: &mut [u64], i: usize)
 {
     let at = i / 64;
     let bit = 1u64 << ((i % 64) as u32);
-    set[at] = set[at] | bit;
+    set[at] |= bit;
 }
 
 // Whether it is in the set.
@@ -28,7 +28,7 @@ pub fn first(x: u64) -> usize
     requires { 0 < x }
     ensures { result ≡ count_trailing_zeros 64 x }
 {
-    u64::trailing_zeros(x) as usize
+    x.trailing_zeros() as usize
 }
 
 // The word without it.

@@ -1,22 +1,11 @@
 // The wheel: which delays put out at which instant. 512 rows of 4 words; the row of instant w is w % 512, and is empty unless `tag` says w there.
+// The lists are lent one by one: for a struct of lent lists every contract would have to say of each list that it is the same one still.
 ghost use Rattle.std.specs.Prelude.{◌≡◌, ◌+◌, ◌*◌, ◌%◌, ◌<◌, ◌≤◌, eqb, length, set};
 ghost use Rattle.engine_laws.specs.Lines.{Lined, Numbered, Unset};
 ghost use Rattle.engine_laws.specs.Sets.{inserted, Free};
 ghost use Rattle.engine_laws.specs.Wheel.{Rows, puts_in, zeroed, opened};
 
 use crate::sets;
-
-// n words from i on become 0.
-fn zero(wheel: &mut [u64], i: usize, n: usize)
-    requires { (i + n ≤ length wheel.old) × (length wheel.old ≤ 1000000) }
-    ensures { wheel.new ≡ zeroed n wheel.old i }
-{
-    let mut z: usize = 0;
-    while z < n {
-        wheel[i + z] = 0;
-        z += 1;
-    }
-}
 
 // The row of instant w is there, empty if it was not.
 pub fn open_row(wheel: &mut [u64], tag: &mut [u32], width: usize, w: u32)
@@ -28,7 +17,7 @@ pub fn open_row(wheel: &mut [u64], tag: &mut [u32], width: usize, w: u32)
     if tag[q] == w {
         return;
     }
-    zero(wheel, 4 * q, width);
+    wheel[4 * q..4 * q + width].fill(0);
     tag[q] = w;
 }
 
@@ -74,15 +63,13 @@ pub fn next_due(occupied: &[u64], t: u32) -> u32
     ensures free { (result < 2000000 → Free occupied.now t result) × (2000000 ≤ result → Free occupied.now t (t + 257)) }
 {
     let mut w = t + 1;
-    let mut left: u32 = 5;
-    while 0 < left {
+    for _ in 0..5u32 {
         let o = w % 256;
         let x = occupied[(o / 64) as usize] >> (o % 64);
         if x != 0 {
-            return w + u64::trailing_zeros(x);
+            return w + x.trailing_zeros();
         }
-        w = w + (64 - w % 64);
-        left -= 1;
+        w += 64 - w % 64;
     }
     2000000
 }
@@ -102,6 +89,7 @@ pub fn line_in(
     ensures { Lined state.now at d width r 256 wheel.old tag.old wheel.new tag.new }
 {
     let mut i: usize = 0;
+    // The rest of a byte is passed at once where it is 0, so the steps differ.
     while i < 256 {
         let byte = state[at + i / 8];
         let x = byte >> ((i % 8) as u32);

@@ -1,13 +1,12 @@
 -- A continuing, instant by instant and in chunks: it may be done in chunks, each by any means that gives the course of that chunk.
 -- Assumes nothing.
-use Rattle.std.specs.Prelude.{true, ◌≡◌}
+use Rattle.model.specs.Refusals.{Checked, Accepted}
+use Rattle.std.specs.Prelude.{true, ◌≡◌, Ok, Err}
 use Rattle.std.proofs.Math.Bool.{false}
 use mathlib.Core.List.{List}
 use Rattle.std.proofs.Math.Path.{refl, ap}
 use Rattle.std.proofs.Common.{sym, ◌∙◌, arith}
 use Prim.Native.Nat.{ℕ, zero, suc, ◌+◌, ◌<◌}
-use Rattle.model.specs.declared.Checked.{Checked}
-use Rattle.model.specs.declared.Checked.TheVariants.{Accepted, Refused}
 use Rattle.model.specs.declared.Refusal.{Refusal}
 use Rattle.model.specs.declared.Format.{Format}
 use Rattle.model.specs.Circuit.{Netlist, high}
@@ -56,9 +55,9 @@ later_by m c = course c.check c.state (m + c.count)
 later-suc : (m : ℕ) (c : Course) → longer (later_by m c) ≡ later_by (1 + m) c
 later-suc m c = ap (λ (n : ℕ). course c.check c.state n) (omega arith)
 
-by-checked : {A : Type 0} (c : Checked) → (c ≡ Accepted → A) → ((r : Refusal) → c ≡ Refused r → A) → A
-by-checked Accepted f g = f refl
-by-checked (Refused r) f g = g r refl
+by-checked : {A : Type 0} (c : Checked) → (c ≡ Accepted → A) → ((r : Refusal) → c ≡ Err r → A) → A
+by-checked (Ok _) f g = f refl
+by-checked (Err r) f g = g r refl
 
 module _ (F : Format) (net : Netlist) (f : ℕ) where
   none : (s : List ℕ) → continued F net f 0 s ≡ course Accepted s 0

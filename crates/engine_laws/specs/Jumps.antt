@@ -7,10 +7,9 @@ use native.Mathlib.Omega.{arith}
 use Rattle.std.proofs.Math.Decide.{ℕ_discrete}
 use Rattle.std.proofs.Math.Logic.{⊎_elim}
 use Rattle.std.proofs.Math.ListN.{length}
-use Rattle.model.specs.declared.Checked.TheVariants.{Accepted}
 use Rattle.model.specs.declared.Format.{Format}
 use Rattle.model.specs.declared.Format.TheVariants.{Full, Compact}
-use Rattle.model.specs.Refusals.{fault_if}
+use Rattle.model.specs.Refusals.{fault_if, Accepted}
 use Rattle.model.specs.Circuit.{Netlist, cell_at, high, k_delay}
 use Rattle.model.specs.State.{course, state_size, now_at, left_at, step_state, crowded, crowding, continued}
 use Rattle.laws.specs.Refusals.Laws.{not-both, faultless}

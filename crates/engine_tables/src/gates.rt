@@ -8,25 +8,19 @@ pub fn find_cleared(cleared: &mut [u8], kind: &[u8], a: &[u16], b: &[u16], n: us
     requires { (n ≤ 1024) × (1024 ≤ length cleared.old) × (1024 ≤ length kind.now) × (1024 ≤ length a.now) × (1024 ≤ length b.now) }
     ensures { length cleared.new ≡ length cleared.old }
 {
-    let mut k: usize = 0;
-    while k < n {
-        let x = kind[k];
-        if ((32 <= x) & (x <= 39)) | (x == 41) {
-            cleared[k] = 1;
-            k += 1;
-        } else if x == 7 {
-            let i = (a[k] % 1024) as usize;
-            let j = (b[k] % 1024) as usize;
-            cleared[k] = cleared[i] & cleared[j];
-            k += 1;
-        } else {
-            cleared[k] = 0;
-            k += 1;
-        }
+    for k in 0..n {
+        let i = (a[k] % 1024) as usize;
+        let j = (b[k] % 1024) as usize;
+        cleared[k] = match kind[k] {
+            32..=39 | 41 => 1,
+            7 => cleared[i] & cleared[j],
+            _ => 0,
+        };
     }
 }
 
 // Whether a cell of this kind may be marked as `own`, where its inputs are marked so.
+#[tactic(auto, unfolding(model::specs::Circuit::shape, model::specs::Circuit::cell_table, engine_laws::specs::Tables::clears_test))]
 fn clears(kind: u8, own: bool, first: bool, second: bool) -> bool
     ensures { result ≡ true → clears_test (shape kind) kind own first second ≡ true }
 {
@@ -34,17 +28,10 @@ fn clears(kind: u8, own: bool, first: bool, second: bool) -> bool
         1 => !own,
         3 => !(own | first),
         4..=9 => (own & (kind == 7) & first & second) | !(own | first | second),
-        32 => own,
-        33 => own,
-        34 => own & first,
-        35 => own & first & second,
-        36 => own & first,
-        37 => own & first,
-        38 => own & first & second,
-        39 => own & first & second,
-        40 => !own & first,
-        41 => own & first,
-        42 => !own & first,
+        32 | 33 => own,
+        34 | 36 | 37 | 41 => own & first,
+        35 | 38 | 39 => own & first & second,
+        40 | 42 => !own & first,
         43 => !own,
         44 => !(own | second),
         _ => false,
@@ -56,15 +43,13 @@ pub fn check_cleared(cleared: &[u8], kind: &[u8], a: &[u16], b: &[u16], n: usize
     requires { (n ≤ 1024) × (1024 ≤ length cleared.now) × (1024 ≤ length kind.now) × (1024 ≤ length a.now) × (1024 ≤ length b.now) }
     ensures { result ≡ true → (delays : List ℕ) → Nets kind.now delays a.now b.now n (Cleared (λ k. eqb (get_or cleared.now k 0) 1)) }
 {
-    let mut k: usize = 0;
-    while k < n {
+    for k in 0..n {
         let i = (a[k] % 1024) as usize;
         let j = (b[k] % 1024) as usize;
         let passes = clears(kind[k], cleared[k] == 1, cleared[i] == 1, cleared[j] == 1);
         if !passes {
             return false;
         }
-        k += 1;
     }
     true
 }

@@ -25,50 +25,29 @@ pub fn find_followed(
     requires { (n ≤ 1024) × (1024 ≤ length sets.old) × (1024 ≤ length kind.now) × (1024 ≤ length delay.now) × (1024 ≤ length a.now) × (1024 ≤ length b.now) × (1024 ≤ length rank.now) }
     ensures { length sets.new ≡ length sets.old }
 {
-    let mut k: usize = 0;
-    while k < n {
-        let x = kind[k];
+    for k in 0..n {
         let i = (a[k] % 1024) as usize;
         let j = (b[k] % 1024) as usize;
-        if x == 3 {
-            sets[k] = sets[i];
-            k += 1;
-        } else if (4 <= x) & (x <= 9) {
-            sets[k] = sets[i] | sets[j];
-            k += 1;
-        } else if x == 40 {
-            sets[k] = only((rank[k] % 32) as u32);
-            k += 1;
-        } else if x == 44 {
-            sets[k] = sets[j] | only(16 + (delay[i] % 4) as u32);
-            k += 1;
-        } else {
-            sets[k] = 0;
-            k += 1;
-        }
+        sets[k] = match kind[k] {
+            3 => sets[i],
+            4..=9 => sets[i] | sets[j],
+            40 => only((rank[k] % 32) as u32),
+            44 => sets[j] | only(16 + (delay[i] % 4) as u32),
+            _ => 0,
+        };
     }
 }
 
 // Whether a cell of this kind follows the registers `own`, where its inputs follow x and y; the others are the sets of its own and its array's number.
+#[tactic(auto, unfolding(model::specs::Circuit::shape, model::specs::Circuit::cell_table, engine_laws::specs::Tables::follows_test))]
 fn follows(kind: u8, own: u32, x: u32, y: u32, memory: u32, array: u32) -> bool
     ensures { result ≡ true → follows_test (shape kind) own x y memory array ≡ true }
 {
     match kind {
-        1 => own == 0,
         3 => own == x,
         4..=9 => own == x | y,
-        32 => own == 0,
-        33 => own == 0,
-        34 => own == 0,
-        35 => own == 0,
-        36 => own == 0,
-        37 => own == 0,
-        38 => own == 0,
-        39 => own == 0,
+        1 | 32..=39 | 41..=43 => own == 0,
         40 => own == memory,
-        41 => own == 0,
-        42 => own == 0,
-        43 => own == 0,
         44 => own == y | array,
         _ => false,
     }
@@ -87,8 +66,7 @@ pub fn check_followed(
     requires { (n ≤ 1024) × (1024 ≤ length sets.now) × (1024 ≤ length kind.now) × (1024 ≤ length delay.now) × (1024 ≤ length a.now) × (1024 ≤ length b.now) × (1024 ≤ length rank.now) }
     ensures { result ≡ true → Nets kind.now delay.now a.now b.now n (λ net. ((k : ℕ) → k < n → shape_at net k ≡ k_memory → get_or rank.now k 0 < 32) → Followed (λ k. get_or sets.now k 0) (λ k. get_or rank.now k 0) net) }
 {
-    let mut k: usize = 0;
-    while k < n {
+    for k in 0..n {
         let i = (a[k] % 1024) as usize;
         let j = (b[k] % 1024) as usize;
         let memory = only((rank[k] % 32) as u32);
@@ -97,7 +75,6 @@ pub fn check_followed(
         if !passes {
             return false;
         }
-        k += 1;
     }
     true
 }

@@ -5,10 +5,8 @@ use lib.ListN.{length-map}
 use lib.Seq.{sets, sets-eq, length-sets, take-append_seam, drop-append_seam}
 use Rattle.model.specs.declared.Cell.{Cell}
 use Rattle.model.specs.Circuit.{no_cell, cell_at}
-use Rattle.model.specs.NetlistFile.{cell_limit, cell_from, cells_at, in_file, blocks_for}
+use Rattle.model.specs.NetlistFile.{cell_from, cells_at, in_file}
 use Rattle.model.specs.CellSlices.{moved_from, moved, behind}
-use Rattle.netlist.specs.declared.cells.Layout.TheVariants.{InFile}
-use Rattle.netlist.specs.Offsets.{Room}
 use Rattle.netlist.proofs.Bytes.{cells-more, cells-none}
 
 pub move-more : (k end : ℕ) (cs : List Cell) (i : ℕ) {c : Cell} → i < end → end ≤ length cs → c ≡ moved k (cell_at cs i)
@@ -18,33 +16,22 @@ move-more k end cs i {c} h g e =
     let m : end - i ≡ suc (end - suc i) = omega arith in
     rw (s, m, drop-set-lt (suc i) cs i c (omega arith), drop-cons cs i no_cell (omega arith), e) refl
 
-pub move-done : (k end : ℕ) (cs : List Cell) (i : ℕ) → end ≤ i → moved_from k end cs i ≡ cs
-move-done k end cs i h = let m : end - i ≡ 0 = omega arith in rw m refl
-
--- cells of a file in places i up to end, where its first has place `first`
+-- the first n cells of a file in their places, from number `at` on, but for the first j
 abbrev pub placed_from : List ℕ → ℕ → ℕ → List Cell → ℕ → List Cell
-placed_from file first end cs i = sets cs i (cells_at in_file file (i - first) (end - i))
+placed_from file at n cs j = sets cs (at + j) (cells_at in_file file j (n - j))
 
-module _ (file : List ℕ) (first end : ℕ) where
-  pub place-begin : (cs : List Cell) → placed_from file first end cs first ≡ sets cs first (cells_at in_file file 0 (end - first))
-  place-begin cs = let z : first - first ≡ 0 = omega arith in rw z refl
+module _ (file : List ℕ) (at n : ℕ) where
+  pub place-begin : (cs : List Cell) → placed_from file at n cs 0 ≡ sets cs at (cells_at in_file file 0 n)
+  place-begin cs = let z : at + 0 ≡ at = omega arith in let m : n - 0 ≡ n = omega arith in rw (z, m) refl
 
-  pub place-more : (cs : List Cell) (i : ℕ) {c : Cell} → first ≤ i → i < end → c ≡ cell_from file (in_file (i - first))
-      → placed_from file first end cs i ≡ placed_from file first end (set cs i c) (i + 1)
-  place-more cs i {c} f h e =
-      let s : i + 1 ≡ suc i = add-one i in
-      let k : i - first + 1 ≡ suc i - first = omega arith in
-      let m : end - i - 1 ≡ end - suc i = omega arith in
-      rw (s, cells-more in_file file (i - first) (end - i) (omega arith), ← e, k, m) refl
+  pub place-more : (cs : List Cell) (j : ℕ) {c : Cell} → j < n → c ≡ cell_from file (in_file j) → placed_from file at n cs j ≡ placed_from file at n (set cs (at + j) c) (j + 1)
+  place-more cs j {c} h e =
+      let s : at + (j + 1) ≡ suc (at + j) = omega arith in
+      let m : n - j - 1 ≡ n - (j + 1) = omega arith in
+      rw (s, cells-more in_file file j (n - j) (omega arith), ← e, m) refl
 
-  pub place-done : (cs : List Cell) (i : ℕ) → end ≤ i → placed_from file first end cs i ≡ cs
-  place-done cs i h = rw (cells-none in_file file (i - first) (end - i) (omega arith)) refl
-
-  -- a file with room for the cells that are placed has room for each
-  pub place-fits : (i : ℕ) → first ≤ i → i < end → Room InFile file (end - first) → (i - first < cell_limit) × Room InFile file (i - first + 1)
-  place-fits i f h r =
-      let b : blocks_for (i - first + 1) ≤ blocks_for (end - first) = omega arith in
-      (omega (arith, r.few), record { few = omega (arith, r.few); fits = omega (arith, b, r.fits) })
+  pub place-done : (cs : List Cell) (j : ℕ) → n ≤ j → placed_from file at n cs j ≡ cs
+  place-done cs j h = rw (cells-none in_file file j (n - j) (omega arith)) refl
 
 -- Placed and then moved ----------------------------------------------------------------------------------------------------------------
 
@@ -79,8 +66,8 @@ module _ (xs cs : List Cell) (i : ℕ) (h : i + length cs ≤ length xs) where
       let g : drop (i + length ds) (sets xs i cs) ≡ drop (i + length ds) xs = rw e d in
       a ∙ rw (c, g) refl ∙ sym b
 
-pub place-move : (k from end : ℕ) (xs cs : List Cell) → length cs ≡ end - from → from ≤ end → end ≤ length xs
-    → moved_from k end (sets xs from cs) from ≡ sets xs from (behind k cs)
-place-move k from end xs cs l f h =
-    let fits : from + length cs ≤ length xs = omega (arith, l, f, h) in
-    rw (← l, drop-sets xs cs from fits) (sets-again xs cs from fits (map (moved k) cs) (length-map cs (moved k)))
+pub place-move : (k at n : ℕ) (xs cs : List Cell) → length cs ≡ n → at + n ≤ length xs → moved_from k (at + n) (sets xs at cs) at ≡ sets xs at (behind k cs)
+place-move k at n xs cs l h =
+    let fits : at + length cs ≤ length xs = omega (arith, l, h) in
+    let z : at + n - at ≡ length cs = omega (arith, l) in
+    rw (z, drop-sets xs cs at fits) (sets-again xs cs at fits (map (moved k) cs) (length-map cs (moved k)))

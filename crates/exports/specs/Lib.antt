@@ -1,4 +1,3 @@
 -- Definitions that the contracts cite beside those of model.
 pub mod Looks
-pub mod Plans
 pub mod Writes

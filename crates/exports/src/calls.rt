@@ -1,6 +1,9 @@
 // The calls on bytes: numbers and byte slices in, the answer as 48 bytes in a lent buffer (reply/specs/Replies).
-// Each answers whether there was room for the reply; where there was none it did nothing. Before a program or a text stands what is given beside
-// it: a flag that tells whether a table of operator times is given, the table, the number of procedures, and the pulse length, which a slow run has not.
+// Each answers whether there was room for the reply; where there was none it did nothing. Each asks that itself before its call, which writes into lent
+// lists: of a closure that made the call a helper would know the result, and not what it leaves in the lists; and one that took these, too, would stand
+// here for none, one and two of them.
+// Before a program or a text stands what is given beside it: a flag that tells whether a table of operator times is given, the table, the number of
+// procedures, and the pulse length, which a slow run has not.
 ghost use Rattle.std.specs.Prelude.{◌≡◌};
 ghost use Rattle.model.specs.TimeTables.{given_if, beside, load};
 ghost use Rattle.model.specs.Calls.{check_call, compile_call, write_call, read_call, begin_call, continue_call, start_call, run_netlist_call, run_program_call, reference_call};

@@ -3,7 +3,7 @@
 // covered functions on a cell by value.
 #![tactic(auto)]
 
-ghost use Rattle.std.specs.Prelude.{◌≡◌, ◌-◌, ◌*◌, ◌≤◌, length, take};
+ghost use Rattle.std.specs.Prelude.{◌≡◌, ◌+◌, ◌*◌, ◌≤◌, length, Err};
 ghost use Rattle.std.proofs.lemmas.List.Edits.{sets};
 ghost use Rattle.model.specs.CellSlices.{moved_from, behind, check_cells_call, write_cells_call, read_cells_call};
 ghost use Rattle.model.specs.NetlistFile.{cell_limit, cells_at, in_file, blocks_for};
@@ -17,11 +17,12 @@ pub mod calls; // the calls on bytes
 pub mod functional_calls; // those for functional circuits
 mod checking; // what the check tells
 pub mod moves; // one cell moved, and cells of six bytes each
-mod reading; // what reading puts in
+mod reading; // what reading tells
 mod runs; // the calls that take a state
-mod writing; // what writing puts in
+mod writing; // what writing tells
 
-use model::Cell;
+use model::{Cell, Refusal};
+use netlist::cells::Layout;
 use netlist::rules::Scan;
 
 // What is found of a netlist's cells, one after another; of more than a netlist may have none is looked at.
@@ -30,13 +31,11 @@ fn scanned(cells: &[Cell], finish: u16) -> Scan
 {
     let n = cells.len();
     let mut scan = netlist::rules::begin(n, finish as usize);
-    let mut k = checking::first_looked(n);
-    while k < n {
+    for k in checking::first_looked(n)..n {
         let c = cells[k];
         let i = netlist::rules::input(n, k, c.a);
         let j = netlist::rules::input(n, k, c.b);
         scan = netlist::rules::step(scan, k, c, cells[i].kind, cells[j].kind);
-        k += 1;
     }
     scan
 }
@@ -46,20 +45,23 @@ pub fn hub_check_cells(cells: &[Cell], finish: u16, reply: &mut [u8]) -> bool
     ensures done { result ≡ room_for reply.old }
     ensures reply { reply.new ≡ if_room reply.old (replied (checked_reply (check_cells_call cells.now finish)) reply.old) reply.old }
 {
-    let scan = scanned(cells, finish);
-    checking::tell(scan, reply)
+    if reply.len() < reply::LENGTH {
+        return false;
+    }
+    let answer = checking::checked(scanned(cells, finish));
+    reply::put(reply, reply::of_checked(answer));
+    true
 }
 
-// Puts the first n cells in as their file, whose blocks are numbered from first on.
-fn put_cells(cells: &[Cell], n: usize, first: u16, finish: u16, file: &mut [u8])
-    requires { (n ≤ length cells.now) × (n ≤ cell_limit) × (512 * blocks_for n ≤ length file.old) × (first ≤ 65280) }
-    ensures { file.new ≡ sets file.old 0 (numbered first (take n cells.now) finish) }
+// Puts the cells in as their file, whose blocks are numbered from first on.
+fn put_cells(cells: &[Cell], first: u16, finish: u16, file: &mut [u8])
+    requires { (length cells.now ≤ cell_limit) × (512 * blocks_for (length cells.now) ≤ length file.old) × (first ≤ 65280) }
+    ensures { file.new ≡ sets file.old 0 (numbered first cells.now finish) }
 {
-    let mut k: usize = 0;
-    let mut sum: u16 = 0;
-    while k < n {
-        sum = netlist::blocks::put_next(file, k, n, first, finish, cells[k], sum);
-        k += 1;
+    let n = cells.len();
+    let mut sum = 0u16;
+    for (k, c) in cells.iter().enumerate() {
+        sum = netlist::blocks::put_next(file, k, n, first, finish, *c, sum);
     }
 }
 
@@ -75,10 +77,17 @@ pub fn hub_write_cells(
     ensures file { file.new ≡ if_room reply.old (write_cells_call pulse cells.now finish file.old).lent file.old }
     ensures reply { reply.new ≡ if_room reply.old (replied (written_reply (write_cells_call pulse cells.now finish file.old).answer) reply.old) reply.old }
 {
+    if reply.len() < reply::LENGTH {
+        return false;
+    }
     let scan = scanned(cells, finish);
-    let p = writing::planned(pulse, scan, finish, file.len(), reply);
-    put_cells(cells, p.n, p.first, finish, file);
-    p.told
+    let answer = writing::told(pulse, scan, finish, file.len());
+    reply::put(reply, reply::of_written(answer));
+    if answer.is_ok() {
+        let first = netlist::blocks::first_number(u16::from(pulse));
+        put_cells(cells, first, finish, file);
+    }
+    true
 }
 
 // Moves the inputs of the cells from number `from` up to `end` k places on.
@@ -86,24 +95,20 @@ fn renumber(cells: &mut [Cell], from: usize, end: usize, k: u16)
     requires { end ≤ length cells.old }
     ensures { cells.new ≡ moved_from k end cells.old from }
 {
-    let mut i = from;
-    while i < end {
+    for i in from..end {
         cells[i] = moves::moved(cells[i], k);
-        i += 1;
     }
 }
 
-// Puts the file's cells in from number `from` up to `end`, and moves their inputs k places on.
-fn place_cells(cells: &mut [Cell], from: usize, end: usize, k: u16, file: &[u8])
-    requires { (from ≤ end) × (end ≤ length cells.old) × Room InFile file.now (end - from) }
-    ensures { cells.new ≡ sets cells.old from (behind k (cells_at in_file file.now 0 (end - from))) }
+// Puts the file's first n cells in from number `at` on, and moves their inputs as many places on.
+fn place_cells(cells: &mut [Cell], at: usize, n: usize, file: &[u8])
+    requires { (at + n ≤ length cells.old) × Room InFile file.now n }
+    ensures { cells.new ≡ sets cells.old at (behind at (cells_at in_file file.now 0 n)) }
 {
-    let mut i = from;
-    while i < end {
-        cells[i] = reading::file_cell(file, from, i);
-        i += 1;
+    for j in 0..n {
+        cells[at + j] = netlist::cells::cell_at(file, Layout::InFile, j);
     }
-    renumber(cells, from, end, k)
+    renumber(cells, at, at + n, (at % 65536) as u16)
 }
 
 // Reads a netlist file behind the first `at` cells: refusals 9 to 12, 14.
@@ -112,7 +117,13 @@ pub fn hub_read_cells(file: &[u8], at: usize, cells: &mut [Cell], reply: &mut [u
     ensures cells { cells.new ≡ if_room reply.old (read_cells_call file.now at cells.old).lent cells.old }
     ensures reply { reply.new ≡ if_room reply.old (replied (written_reply (read_cells_call file.now at cells.old).answer) reply.old) reply.old }
 {
-    let p = reading::planned(file, at, cells.len(), reply);
-    place_cells(cells, p.from, p.end, p.k, file);
-    p.told
+    if reply.len() < reply::LENGTH {
+        return false;
+    }
+    let answer = reading::told(file, at, cells.len());
+    reply::put(reply, reply::of_written(answer));
+    if let Ok(w) = answer {
+        place_cells(cells, at, w.count, file);
+    }
+    true
 }

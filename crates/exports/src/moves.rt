@@ -12,9 +12,7 @@ use netlist::cells::Layout;
 pub fn moved(c: Cell, k: u16) -> Cell
     ensures { result ≡ moved k c }
 {
-    let a = std::num::wrapping_add_u16(c.a, k);
-    let b = std::num::wrapping_add_u16(c.b, k);
-    netlist::moves::rewired(c, a, b)
+    netlist::moves::rewired(c, c.a.wrapping_add(k), c.b.wrapping_add(k))
 }
 
 // The cells from number `from` up to `end` moved k places on.
@@ -22,12 +20,9 @@ fn renumber_bytes(cells: &mut [u8], from: usize, end: usize, k: u16)
     requires { (end ≤ cell_limit) × (6 * end ≤ length cells.old) }
     ensures { cells.new ≡ moved_bytes k end cells.old from }
 {
-    let mut i = from;
-    while i < end {
+    for i in from..end {
         let c = netlist::cells::cell_at(cells, Layout::InList, i);
-        let next = moved(c, k);
-        netlist::cells::put_cell(cells, CELL * i, next, 0);
-        i += 1;
+        netlist::cells::put_cell(cells, CELL * i, moved(c, k), 0);
     }
 }
 

@@ -6,6 +6,7 @@ use Prim.Native.Nat.{ℕ, zero, suc, ◌+◌, ◌-◌, ◌*◌, ◌/◌, ◌%◌
 use native.Mathlib.Omega.{arith}
 use borrow.Author.Tests.{eqb-true, eqb-false}
 use lib.Dec.{eqb, eqb-zero-suc, eqb-suc-zero, eqb-suc-suc}
+use lib.Count.{ones, ones_step}
 use lib.Pow.{pow-lt}
 use lib.Bits.{bit_or, or_step}
 use native.Mathlib.Nat.{not-suc-le-zero, le_of_suc-le-suc, pow-suc}
@@ -65,6 +66,21 @@ among-bit n x {r} h e =
 pub among-end : (b : ℕ → Bool) (x : ℕ) → 16 ≤ x → among b x (16 - x) ≡ 0
 unfolding among
 among-end b x h = let e : 16 - x ≡ 0 = omega arith in rw e refl
+
+-- the bits that are left, counted
+ones-left : (n k x : ℕ) → n < 65536 → x + k ≡ 16 → ones (later x n) ≡ among (has n) x (16 - x)
+unfolding later ones
+ones-left n zero x h e =
+    let end : x ≡ 16 = omega arith in
+    let none : later 16 n ≡ 0 = omega arith in
+    rw end (rw none refl) ∙ sym (among-end (has n) x (omega arith))
+ones-left n (suc k) x h e =
+    let next = ap ones (later-next x n refl) in
+    omega (arith, ones_step (later x n), next, ones-left n k (x + 1) h (omega arith), among-bit n x (omega arith) refl)
+
+pub ones-many : (n : ℕ) → n < 65536 → ones n ≡ many (has n)
+unfolding later
+ones-many n h = ones-left n 16 0 h refl
 
 swap : (p q : Bool) (A : ℕ) → pick p (1 + pick q (1 + A) A) (pick q (1 + A) A) ≡ pick q (1 + pick p (1 + A) A) (pick p (1 + A) A)
 swap true true A = refl

@@ -1,5 +1,7 @@
 -- The call that compiles: what an accepted program's main statement is, and the call outcome by outcome, its answer and the lent list afterwards.
 -- Assumes nothing.
+use Rattle.model.specs.Refusals.{Checked, Accepted, Done}
+use Rattle.std.specs.Prelude.{Err}
 use mathlib.Core.Path.{◌≡◌, refl, sym, ◌∙◌, ap}
 use mathlib.Core.List.{List, [], ◌∷◌, ◌++◌, append_assoc}
 use Prim.Native.Nat.{ℕ, ◌+◌, ◌-◌, ◌*◌, ◌<◌, ◌≤◌}
@@ -11,11 +13,7 @@ use lib.Seq.{sets, drop_at, length-take-le}
 use Rattle.model.specs.declared.Cell.{Cell}
 use Rattle.model.specs.declared.Refusal.{Refusal}
 use Rattle.model.specs.declared.Options.{Options}
-use Rattle.model.specs.declared.Checked.{Checked}
-use Rattle.model.specs.declared.Checked.TheVariants.{Accepted}
-use Rattle.model.specs.declared.Written.{Written}
-use Rattle.model.specs.declared.Written.TheVariants.{Done}
-use Rattle.model.specs.Program.{Code, Stmt, ok, tick, assign, assign_elem, seq, par, ite, while, repeat, loop, exit, call, stmt_at, program_of}
+use Rattle.model.specs.Program.{Code, Stmt, ok, tick, assign, assign_elem, seq, par, ite, while, repeat, loop, exit, call, stmt_at, program_of, time_in}
 use Rattle.model.specs.Procedures.{inline, inlined, meaning}
 use Rattle.model.specs.ProgramChecks.{check_functional}
 use Rattle.model.specs.NetlistFile.{cell_bytes, cells_at, in_list, file_of, blocks_for, file_check}
@@ -35,7 +33,7 @@ use Rattle.laws.specs.Functional.Accepted.{table_alone, also-accepted, main-basi
 use Rattle.laws.specs.Functional.Compiled.{net-accepted, count-right}
 use Rattle.word.proofs.Puts.{overwrite-sets}
 use Rattle.program.specs.declared.Scanned.{Scanned}
-use Rattle.program.specs.Shape.{Functionally}
+use Rattle.program.specs.Shape.{AllShaped}
 use Rattle.netlist.proofs.Calls.{Tells, refused}
 use Rattle.compiler.specs.Writes.{write}
 use Rattle.compiler.proofs.Writes.{write-length}
@@ -156,10 +154,10 @@ module _ (options : Options) (s : List ℕ) (e : check_functional_call options s
   same_count = rw same-statement (net-len (plain_at s 0))
 
   -- with its ends
-  module _ {r : Scanned} (S : Functionally options s r) where
+  module _ {r : Scanned} (S : AllShaped (time_in options.times) s r) where
     pub scanned-main : Main s r.ends
     scanned-main = record {
-      laid = record { short = (accepted (table_alone options) s whole).readable.short; each = λ j l. (S.shaped e j l).end };
+      laid = record { short = (accepted (table_alone options) s whole).readable.short; each = λ j l. (S j l).end };
       formed = rw (← main-here s) (program-admitted (table_alone options) s whole).main.fit.formed;
       basic = rw (← main-here s) basic;
       few = few;
@@ -179,8 +177,8 @@ functional-accepted options s bytes e =
 
 -- The call -----------------------------------------------------------------------------------------------------------------------------------
 
-pub compile-refused : (options : Options) (s lent : List ℕ) {r : Refusal} → check_functional_call options s ≡ Checked.Refused r
-    → Tells (Written.Refused r) lent (compile_functional_call options s lent)
+pub compile-refused : (options : Options) (s lent : List ℕ) {r : Refusal} → check_functional_call options s ≡ Err r
+    → Tells (Err r) lent (compile_functional_call options s lent)
 unfolding compile_functional_call check_functional_call writing
 compile-refused options s lent e = rw (first-take 2 (compile_functional_checks options s lent) e) (refl, refl)
 

@@ -3,9 +3,9 @@
 // past its place in that list. Contracts cite model/FunctionalCalls.
 #![tactic(auto)]
 
+ghost use Rattle.model.specs.Refusals.{Accepted};
 ghost use Rattle.std.specs.Prelude.{◌≡◌, ◌++◌, ◌+◌, ◌*◌, ◌≤◌, length, drop};
 ghost use Rattle.std.proofs.lemmas.List.Edits.{sets};
-ghost use Rattle.model.specs.declared.Checked.TheVariants.{Accepted};
 ghost use Rattle.model.specs.Circuit.{cell};
 ghost use Rattle.model.specs.NetlistFile.{cell_limit, cells_at, in_list, blocks_for, file_of};
 ghost use Rattle.model.specs.Numbering.{head_cells};
@@ -25,8 +25,9 @@ use crate::rows::Row;
 use crate::walk::Place;
 use compiler::walk::put;
 use model::sizes::{BLOCK, BLOCK_CELLS, BLOCK_LAST, CELL};
-use model::{Checked, Options, Refusal, Written};
+use model::{Options, Refusal, Written, refuse};
 use netlist::cells::Layout;
+use program::nodes::Tree;
 
 // The head, the memories, which keep the start words, and the arrays' cells, which stand.
 fn put_head(cells: &mut [u8])
@@ -42,12 +43,10 @@ fn put_head(cells: &mut [u8])
         b: sets::same(2),
     };
     rows::put_each(cells, 65535, memories, 3);
-    let mut k: u8 = 0;
-    while k < 4 {
-        let at = 19 + 2 * (k as u16);
+    for k in 0..4 {
+        let at = 19 + 2 * u16::from(k);
         put(cells, at, 42, k, 1, 2);
         put(cells, at + 1, 43, 0, 2, 0);
-        k += 1;
     }
 }
 
@@ -59,10 +58,10 @@ fn start_wires() -> sets::Wires
 }
 
 // The netlist of an accepted program, whose statement is at node 0, as a list of cells; answers its finish.
-fn put_netlist(cells: &mut [u8], program: &[u8], ends: &[usize; 200]) -> u16
-    requires { Main program.now ends.now × (length cells.old ≡ 6 * plain_count program.now) }
-    ensures cells { cells.new ≡ write 0 (netlist_of (plain_at program.now 0)) cells.old }
-    ensures finish { result ≡ finish_of (plain_at program.now 0) }
+fn put_netlist(cells: &mut [u8], tree: &Tree<'_>) -> u16
+    requires { Main tree.now.program.now tree.now.ends.now × (length cells.old ≡ 6 * plain_count tree.now.program.now) }
+    ensures cells { cells.new ≡ write 0 (netlist_of (plain_at tree.now.program.now 0)) cells.old }
+    ensures finish { result ≡ finish_of (plain_at tree.now.program.now 0) }
 {
     put_head(cells);
     let at = Place {
@@ -70,7 +69,7 @@ fn put_netlist(cells: &mut [u8], program: &[u8], ends: &[usize; 200]) -> u16
         cell: 27,
         words: start_wires(),
     };
-    let end = walk::put_stmt(cells, program, ends, 0, at);
+    let end = walk::put_stmt(cells, tree, 0, at);
     let words = end.words;
     let last = Row {
         kind: 7,
@@ -86,35 +85,33 @@ fn put_in_place(d: &mut [u8], from: usize, n: usize, finish: u16)
     requires { (n ≤ cell_limit) × (from + 6 * n ≡ 512 * blocks_for n) × (512 * blocks_for n ≤ length d.old) }
     ensures { d.new ≡ sets d.old 0 (file_of 1 (cells_at in_list (drop from d.old) 0 n) finish) }
 {
-    let mut k: usize = 0;
     let mut sum: u16 = 0;
-    while k < n {
+    for k in 0..n {
         let c = netlist::cells::cell_at(&d[from..], Layout::InList, k);
         sum = netlist::blocks::put_next(d, k, n, 0, finish, c, sum);
-        k += 1;
     }
 }
 
 // Puts the file of an accepted program's netlist of n cells in; answers its finish.
-fn put_file(file: &mut [u8], program: &[u8], ends: &[usize; 200], n: usize) -> u16
-    requires { Main program.now ends.now × (n ≡ plain_count program.now) × (512 * blocks_for n ≤ length file.old) }
-    ensures lent { file.new ≡ overwrite (plain_file program.now) file.old }
-    ensures finish { result ≡ finish_of (plain_at program.now 0) }
+fn put_file(file: &mut [u8], tree: &Tree<'_>, n: usize) -> u16
+    requires { Main tree.now.program.now tree.now.ends.now × (n ≡ plain_count tree.now.program.now) × (512 * blocks_for n ≤ length file.old) }
+    ensures lent { file.new ≡ overwrite (plain_file tree.now.program.now) file.old }
+    ensures finish { result ≡ finish_of (plain_at tree.now.program.now 0) }
 {
     let count = BLOCK * ((n + BLOCK_LAST) / BLOCK_CELLS);
     let from = count - CELL * n;
-    let finish = put_netlist(&mut file[from..count], program, ends);
+    let finish = put_netlist(&mut file[from..count], tree);
     put_in_place(file, from, n, finish);
     finish
 }
 
 // How many cells the netlist of an accepted program has: 27 before those of its statement, and the last sixteen.
-fn count_main(program: &[u8], ends: &[usize; 200]) -> usize
-    requires { Main program.now ends.now }
-    ensures cells { result ≡ plain_count program.now }
+fn count_main(tree: &Tree<'_>) -> usize
+    requires { Main tree.now.program.now tree.now.ends.now }
+    ensures cells { result ≡ plain_count tree.now.program.now }
     ensures few { result ≤ 7043 }
 {
-    43 + (counts::count_stmt(program, ends, 0) as usize)
+    43 + usize::from(counts::count_stmt(tree, 0))
 }
 
 // How many cells the functional netlist of an accepted program has; its file takes 512 bytes for every 84 of them.
@@ -122,9 +119,12 @@ pub fn count_cells(options: Options, program: &[u8]) -> usize
     requires { check_functional_call options program.now ≡ Accepted }
     ensures { result ≡ length (netlist_of (statement_of program.now)) }
 {
-    let told = program::scan_functional(options, program);
-    let ends = told.ends;
-    count_main(program, &ends)
+    let told = program::scan_functional(options, program).unwrap();
+    let tree = Tree {
+        program,
+        ends: &told.ends,
+    };
+    count_main(&tree)
 }
 
 // Writes the functional netlist file of an accepted program into a buffer that is long enough; answers its length.
@@ -133,32 +133,31 @@ pub fn compile_accepted(options: Options, program: &[u8], file: &mut [u8]) -> us
     ensures length { result ≡ length (functional_file program.now) }
     ensures lent { file.new ≡ overwrite (functional_file program.now) file.old }
 {
-    let told = program::scan_functional(options, program);
-    let ends = told.ends;
-    let n = count_main(program, &ends);
-    put_file(file, program, &ends, n);
+    let told = program::scan_functional(options, program).unwrap();
+    let tree = Tree {
+        program,
+        ends: &told.ends,
+    };
+    let n = count_main(&tree);
+    put_file(file, &tree, n);
     BLOCK * ((n + BLOCK_LAST) / BLOCK_CELLS)
 }
 
 // Compiles a program into a functional netlist: refusals 19 to 21, 1 to 6, 28, 22, 24, 7, 25 and 8, and 14.
-pub fn compile(options: Options, program: &[u8], file: &mut [u8]) -> Written
+pub fn compile(options: Options, program: &[u8], file: &mut [u8]) -> Result<Written, Refusal>
     ensures answer { result ≡ (compile_functional_call options program.now file.old).answer }
     ensures lent { file.new ≡ (compile_functional_call options program.now file.old).lent }
 {
-    let told = program::scan_functional(options, program);
-    let checked = told.checked;
-    if let Checked::Refused(r) = checked {
-        return Written::Refused(r);
-    }
-    let ends = told.ends;
-    let n = count_main(program, &ends);
+    let told = program::scan_functional(options, program)?;
+    let tree = Tree {
+        program,
+        ends: &told.ends,
+    };
+    let n = count_main(&tree);
     let count = BLOCK * ((n + BLOCK_LAST) / BLOCK_CELLS);
     if file.len() < count {
-        return Written::Refused(Refusal {
-            number: 14,
-            place: 0,
-        });
+        return refuse(14, 0);
     }
-    let finish = put_file(file, program, &ends, n);
-    Written::Done { count, finish }
+    let finish = put_file(file, &tree, n);
+    Ok(Written { count, finish })
 }

@@ -27,17 +27,12 @@ pub fn put_each(cells: &mut [u8], set: u16, row: Row, k: u16) -> u16
     let b = row.b.of;
     let mut rest = set;
     let mut at = k;
-    let mut x: usize = 0;
-    while x < 16 {
+    for x in 0..16 {
         if rest % 2 == 1 {
             put(cells, at, kind, 0, a[x], b[x]);
             at += 1;
-            rest = rest / 2;
-            x += 1;
-        } else {
-            rest = rest / 2;
-            x += 1;
         }
+        rest /= 2;
     }
     at
 }

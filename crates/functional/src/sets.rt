@@ -14,15 +14,7 @@ pub struct Wires {
 pub fn many(set: u16) -> u16
     ensures { result ≡ many (has set) }
 {
-    let mut rest = set;
-    let mut n: u16 = 0;
-    let mut x: u16 = 0;
-    while x < 16 {
-        n += rest % 2;
-        rest = rest / 2;
-        x += 1;
-    }
-    n
+    set.count_ones() as u16
 }
 
 // By a bit, one of two wires.
@@ -41,6 +33,7 @@ pub fn same(wire: u16) -> Wires
 }
 
 // The wires of cells at `from`, one for each variable of a set; the others are those of ws.
+// `placed` and `chosen` are two loops: of a closure that counts, the proof would know no result.
 pub fn placed(set: u16, from: u16, ws: Wires) -> Wires
     requires { from + 16 ≤ 65535 }
     ensures { Agrees result.of (placed (has set) from (wired ws.of)) }
@@ -49,12 +42,10 @@ pub fn placed(set: u16, from: u16, ws: Wires) -> Wires
     let mut of = [0u16; 16];
     let mut rest = set;
     let mut at = from;
-    let mut x: usize = 0;
-    while x < 16 {
+    for x in 0..16 {
         of[x] = picked(rest % 2, at, ours[x]);
         at += rest % 2;
-        rest = rest / 2;
-        x += 1;
+        rest /= 2;
     }
     Wires { of }
 }
@@ -67,11 +58,9 @@ pub fn chosen(set: u16, us: Wires, ws: Wires) -> Wires
     let ours = ws.of;
     let mut of = [0u16; 16];
     let mut rest = set;
-    let mut x: usize = 0;
-    while x < 16 {
+    for x in 0..16 {
         of[x] = picked(rest % 2, theirs[x], ours[x]);
-        rest = rest / 2;
-        x += 1;
+        rest /= 2;
     }
     Wires { of }
 }

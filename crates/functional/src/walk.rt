@@ -2,9 +2,9 @@
 // after the body: how many cells stand there is known.
 ghost use Rattle.std.specs.Prelude.{◌≡◌, [], ◌∷◌, ℕ, ◌+◌, ◌*◌, ◌<◌, ◌≤◌, length};
 ghost use Rattle.model.specs.Circuit.{cell};
-ghost use Rattle.model.specs.Program.{expr_at, stmt_at, assign, seq, par, ite, while, repeat};
+ghost use Rattle.model.specs.Program.{assign, seq, par, ite, while, repeat};
 ghost use Rattle.model.specs.Numbering.{expr_count};
-ghost use Rattle.program.specs.Ends.{Laid};
+ghost use Rattle.compiler.specs.Nodes.{IsLaid, expr_in, stmt_in};
 ghost use Rattle.compiler.specs.Writes.{write};
 ghost use Rattle.functional.specs.Sets.{Agrees};
 ghost use Rattle.compiler.specs.Walk.{ExprDone, Switched};
@@ -14,6 +14,7 @@ use crate::rows::Row;
 use crate::sets::Wires;
 use compiler::walk::{Word, put, put_own, put_word};
 use model::Node;
+use program::nodes::Tree;
 
 // Where the walk is: the wire that starts a statement or has just finished one, the next cell, and the wires of the words.
 #[derive(Clone, Copy)]
@@ -24,18 +25,11 @@ pub struct Place {
 }
 
 // The cells of the expression at node i, from cell c on: children, then its cell; a variable is the wire that brings its word.
-fn put_expr(
-    cells: &mut [u8],
-    program: &[u8],
-    ends: &[usize; 200],
-    ws: Wires,
-    i: usize,
-    c: u16,
-) -> Word
-    requires { Laid program.now ends.now × ExprReady (expr_at program.now i) c (length cells.old) }
-    ensures { (us : ℕ → ℕ) → Agrees ws.of us → ExprDone us (expr_at program.now i) c cells.old cells.new result }
+fn put_expr(cells: &mut [u8], tree: &Tree<'_>, ws: Wires, i: usize, c: u16) -> Word
+    requires { IsLaid tree.now × ExprReady (expr_in tree.now i) c (length cells.old) }
+    ensures { (us : ℕ → ℕ) → Agrees ws.of us → ExprDone us (expr_in tree.now i) c cells.old cells.new result }
 {
-    let node = compiler::nodes::expr_node(program, i);
+    let node = compiler::nodes::expr_node(tree.program, i);
     let kind = node.kind;
     if kind == 1 {
         return put_word(cells, c, 1, node.n, 0);
@@ -49,29 +43,21 @@ fn put_expr(
     }
     let first = i + 1;
     if kind == 3 {
-        let e = put_expr(cells, program, ends, ws, first, c);
+        let e = put_expr(cells, tree, ws, first, c);
         return put_word(cells, e.cell, 3, e.wire, 0);
     }
-    let second = program::nodes::next(ends, program.len() / 4, first);
-    let e = put_expr(cells, program, ends, ws, first, c);
-    let f = put_expr(cells, program, ends, ws, second, e.cell);
+    let second = tree.next(first);
+    let e = put_expr(cells, tree, ws, first, c);
+    let f = put_expr(cells, tree, ws, second, e.cell);
     put_word(cells, f.cell, kind, e.wire, f.wire)
 }
 
 // A condition, and its 36 and 37; answers the 36.
-fn put_switches(
-    cells: &mut [u8],
-    program: &[u8],
-    ends: &[usize; 200],
-    ws: Wires,
-    i: usize,
-    c: u16,
-    pulse: u16,
-) -> u16
-    requires { Laid program.now ends.now × ExprReady (expr_at program.now i) c (length cells.old) × (6 * (c + expr_count (expr_at program.now i) + 2) ≤ length cells.old) }
-    ensures { (us : ℕ → ℕ) → Agrees ws.of us → Switched us (expr_at program.now i) c pulse cells.old cells.new result }
+fn put_switches(cells: &mut [u8], tree: &Tree<'_>, ws: Wires, i: usize, c: u16, pulse: u16) -> u16
+    requires { IsLaid tree.now × ExprReady (expr_in tree.now i) c (length cells.old) × (6 * (c + expr_count (expr_in tree.now i) + 2) ≤ length cells.old) }
+    ensures { (us : ℕ → ℕ) → Agrees ws.of us → Switched us (expr_in tree.now i) c pulse cells.old cells.new result }
 {
-    let e = put_expr(cells, program, ends, ws, i, c);
+    let e = put_expr(cells, tree, ws, i, c);
     put(cells, e.cell, 36, 0, pulse, e.wire);
     put(cells, e.cell + 1, 37, 0, pulse, e.wire);
     e.cell
@@ -84,28 +70,20 @@ fn put_tick(cells: &mut [u8], at: Place, delay: u8) -> Place
     ensures place { result ≡ place at.cell (at.cell + 1) at.words }
 {
     put(cells, at.cell, 34, delay, at.wire, 0);
-    let words = at.words;
     Place {
         wire: at.cell,
         cell: at.cell + 1,
-        words,
+        ..at
     }
 }
 
 // An assignment: its expression, whose wire brings the word from now on, and its delay.
-fn put_assign(
-    cells: &mut [u8],
-    program: &[u8],
-    ends: &[usize; 200],
-    first: usize,
-    at: Place,
-    node: Node,
-) -> Place
-    requires { Laid program.now ends.now × Ready (assign node.delay node.n (expr_at program.now first)) at.cell (length cells.old) }
-    ensures { (us : ℕ → ℕ) → Agrees at.words.of us → Done (plainly (assign node.delay node.n (expr_at program.now first))) at us cells.old cells.new result }
+fn put_assign(cells: &mut [u8], tree: &Tree<'_>, first: usize, at: Place, node: Node) -> Place
+    requires { IsLaid tree.now × Ready (assign node.delay node.n (expr_in tree.now first)) at.cell (length cells.old) }
+    ensures { (us : ℕ → ℕ) → Agrees at.words.of us → Done (plainly (assign node.delay node.n (expr_in tree.now first))) at us cells.old cells.new result }
 {
     let ws = at.words;
-    let e = put_expr(cells, program, ends, ws, first, at.cell);
+    let e = put_expr(cells, tree, ws, first, at.cell);
     put(cells, e.cell, 34, node.delay, at.wire, 0);
     Place {
         wire: e.cell,
@@ -116,11 +94,11 @@ fn put_assign(
 
 // The cells of the statement at node i, from a place on; answers the place after it, with the wire of its finish.
 #[cycle(put_if_put_par_put_repeat_put_seq_put_stmt_put_while)]
-pub fn put_stmt(cells: &mut [u8], program: &[u8], ends: &[usize; 200], i: usize, at: Place) -> Place
-    requires { Laid program.now ends.now × Ready (stmt_at program.now i) at.cell (length cells.old) }
-    ensures { (us : ℕ → ℕ) → Agrees at.words.of us → Done (plainly (stmt_at program.now i)) at us cells.old cells.new result }
+pub fn put_stmt(cells: &mut [u8], tree: &Tree<'_>, i: usize, at: Place) -> Place
+    requires { IsLaid tree.now × Ready (stmt_in tree.now i) at.cell (length cells.old) }
+    ensures { (us : ℕ → ℕ) → Agrees at.words.of us → Done (plainly (stmt_in tree.now i)) at us cells.old cells.new result }
 {
-    let node = compiler::nodes::stmt_node(program, i);
+    let node = compiler::nodes::stmt_node(tree.program, i);
     let kind = node.kind;
     if kind == 16 {
         return at;
@@ -129,63 +107,48 @@ pub fn put_stmt(cells: &mut [u8], program: &[u8], ends: &[usize; 200], i: usize,
         return put_tick(cells, at, node.delay);
     }
     let d = node.delay;
-    let count = program.len() / 4;
     let i1 = i + 1;
-    let i2 = program::nodes::next(ends, count, i1);
+    let i2 = tree.next(i1);
     match kind {
-        18 => put_assign(cells, program, ends, i1, at, node),
-        19 => put_seq(cells, program, ends, i1, i2, at),
-        20 => put_par(cells, program, ends, i1, i2, at),
+        18 => put_assign(cells, tree, i1, at, node),
+        19 => put_seq(cells, tree, i1, i2, at),
+        20 => put_par(cells, tree, i1, i2, at),
         21 => {
-            let i3 = program::nodes::next(ends, count, i2);
-            put_if(cells, program, ends, i1, i2, i3, at, d)
+            let i3 = tree.next(i2);
+            put_if(cells, tree, i1, i2, i3, at, d)
         }
-        22 => put_while(cells, program, ends, i1, i2, at, d),
-        _ => put_repeat(cells, program, ends, i1, i2, at, d),
+        22 => put_while(cells, tree, i1, i2, at, d),
+        _ => put_repeat(cells, tree, i1, i2, at, d),
     }
 }
 
 // Q starts with P's finish, and with the words that P hands on.
 #[cycle(put_if_put_par_put_repeat_put_seq_put_stmt_put_while)]
-fn put_seq(
-    cells: &mut [u8],
-    program: &[u8],
-    ends: &[usize; 200],
-    first: usize,
-    second: usize,
-    at: Place,
-) -> Place
-    requires { Laid program.now ends.now × Ready (seq (stmt_at program.now first) (stmt_at program.now second)) at.cell (length cells.old) × (first ≤ second) }
-    ensures { (us : ℕ → ℕ) → Agrees at.words.of us → Done (plainly (seq (stmt_at program.now first) (stmt_at program.now second))) at us cells.old cells.new result }
+fn put_seq(cells: &mut [u8], tree: &Tree<'_>, first: usize, second: usize, at: Place) -> Place
+    requires { IsLaid tree.now × Ready (seq (stmt_in tree.now first) (stmt_in tree.now second)) at.cell (length cells.old) × (first ≤ second) }
+    ensures { (us : ℕ → ℕ) → Agrees at.words.of us → Done (plainly (seq (stmt_in tree.now first) (stmt_in tree.now second))) at us cells.old cells.new result }
 {
-    let p = put_stmt(cells, program, ends, first, at);
-    put_stmt(cells, program, ends, second, p)
+    let p = put_stmt(cells, tree, first, at);
+    put_stmt(cells, tree, second, p)
 }
 
 // P, Q, 38. Each side's words are those that it writes.
 #[cycle(put_if_put_par_put_repeat_put_seq_put_stmt_put_while)]
-fn put_par(
-    cells: &mut [u8],
-    program: &[u8],
-    ends: &[usize; 200],
-    first: usize,
-    second: usize,
-    at: Place,
-) -> Place
-    requires { Laid program.now ends.now × Ready (par (stmt_at program.now first) (stmt_at program.now second)) at.cell (length cells.old) × (first ≤ second) }
-    ensures { (us : ℕ → ℕ) → Agrees at.words.of us → Done (plainly (par (stmt_at program.now first) (stmt_at program.now second))) at us cells.old cells.new result }
+fn put_par(cells: &mut [u8], tree: &Tree<'_>, first: usize, second: usize, at: Place) -> Place
+    requires { IsLaid tree.now × Ready (par (stmt_in tree.now first) (stmt_in tree.now second)) at.cell (length cells.old) × (first ≤ second) }
+    ensures { (us : ℕ → ℕ) → Agrees at.words.of us → Done (plainly (par (stmt_in tree.now first) (stmt_in tree.now second))) at us cells.old cells.new result }
 {
     let ws = at.words;
-    let p = put_stmt(cells, program, ends, first, at);
+    let p = put_stmt(cells, tree, first, at);
     let to = Place {
         wire: at.wire,
         cell: p.cell,
         words: ws,
     };
-    let q = put_stmt(cells, program, ends, second, to);
+    let q = put_stmt(cells, tree, second, to);
     put(cells, q.cell, 38, 0, p.wire, q.wire);
-    let of_p = crate::counts::written(program, ends, first);
-    let of_q = crate::counts::written(program, ends, second);
+    let of_p = crate::counts::written(tree, first);
+    let of_q = crate::counts::written(tree, second);
     let us = p.words;
     let vs = q.words;
     let right = crate::sets::chosen(of_q, vs, ws);
@@ -240,19 +203,18 @@ fn put_end(cells: &mut [u8], set: u16, word: u16, ws: Wires, p: Place, q: Place)
 #[cycle(put_if_put_par_put_repeat_put_seq_put_stmt_put_while)]
 fn put_if(
     cells: &mut [u8],
-    program: &[u8],
-    ends: &[usize; 200],
+    tree: &Tree<'_>,
     first: usize,
     second: usize,
     third: usize,
     at: Place,
     delay: u8,
 ) -> Place
-    requires { Laid program.now ends.now × Ready (ite delay (expr_at program.now first) (stmt_at program.now second) (stmt_at program.now third)) at.cell (length cells.old) × (second ≤ third) }
-    ensures { (us : ℕ → ℕ) → Agrees at.words.of us → Done (plainly (ite delay (expr_at program.now first) (stmt_at program.now second) (stmt_at program.now third))) at us cells.old cells.new result }
+    requires { IsLaid tree.now × Ready (ite delay (expr_in tree.now first) (stmt_in tree.now second) (stmt_in tree.now third)) at.cell (length cells.old) × (second ≤ third) }
+    ensures { (us : ℕ → ℕ) → Agrees at.words.of us → Done (plainly (ite delay (expr_in tree.now first) (stmt_in tree.now second) (stmt_in tree.now third))) at us cells.old cells.new result }
 {
     let ws = at.words;
-    let e = put_expr(cells, program, ends, ws, first, at.cell);
+    let e = put_expr(cells, tree, ws, first, at.cell);
     let own = put_own(cells, delay, at.wire, e.cell);
     let switch = own.cell;
     put(cells, switch, 36, 0, own.wire, e.wire);
@@ -262,14 +224,14 @@ fn put_if(
         cell: switch + 1 + 1,
         words: ws,
     };
-    let p = put_stmt(cells, program, ends, second, when_true);
+    let p = put_stmt(cells, tree, second, when_true);
     let when_false = Place {
         wire: switch + 1,
         cell: p.cell,
         words: ws,
     };
-    let q = put_stmt(cells, program, ends, third, when_false);
-    let set = crate::counts::both(program, ends, second, third);
+    let q = put_stmt(cells, tree, third, when_false);
+    let set = crate::counts::both(tree, second, third);
     put_end(cells, set, e.wire, ws, p, q)
 }
 
@@ -306,29 +268,28 @@ fn put_round(cells: &mut [u8], set: u16, n: u16, at: Place, again: u16, us: Wire
 #[cycle(put_if_put_par_put_repeat_put_seq_put_stmt_put_while)]
 fn put_while(
     cells: &mut [u8],
-    program: &[u8],
-    ends: &[usize; 200],
+    tree: &Tree<'_>,
     first: usize,
     second: usize,
     at: Place,
     delay: u8,
 ) -> Place
-    requires { Laid program.now ends.now × Ready (while delay (expr_at program.now first) (stmt_at program.now second)) at.cell (length cells.old) }
-    ensures { (us : ℕ → ℕ) → Agrees at.words.of us → Done (plainly (while delay (expr_at program.now first) (stmt_at program.now second))) at us cells.old cells.new result }
+    requires { IsLaid tree.now × Ready (while delay (expr_in tree.now first) (stmt_in tree.now second)) at.cell (length cells.old) }
+    ensures { (us : ℕ → ℕ) → Agrees at.words.of us → Done (plainly (while delay (expr_in tree.now first) (stmt_in tree.now second))) at us cells.old cells.new result }
 {
     let ws = at.words;
-    let set = crate::counts::written(program, ends, second);
+    let set = crate::counts::written(tree, second);
     let n = crate::sets::many(set);
     let latches = crate::sets::placed(set, at.cell, ws);
     let waits = at.cell + n;
     put(cells, waits + 1, 34, delay, waits, 0);
-    let switch = put_switches(cells, program, ends, latches, first, waits + 2, waits + 1);
+    let switch = put_switches(cells, tree, latches, first, waits + 2, waits + 1);
     let body = Place {
         wire: switch,
         cell: switch + 1 + 1,
         words: latches,
     };
-    let p = put_stmt(cells, program, ends, second, body);
+    let p = put_stmt(cells, tree, second, body);
     let us = p.words;
     let end = put_round(cells, set, n, at, p.wire, us, p.cell);
     Place {
@@ -342,18 +303,17 @@ fn put_while(
 #[cycle(put_if_put_par_put_repeat_put_seq_put_stmt_put_while)]
 fn put_repeat(
     cells: &mut [u8],
-    program: &[u8],
-    ends: &[usize; 200],
+    tree: &Tree<'_>,
     first: usize,
     second: usize,
     at: Place,
     delay: u8,
 ) -> Place
-    requires { Laid program.now ends.now × Ready (repeat delay (expr_at program.now first) (stmt_at program.now second)) at.cell (length cells.old) }
-    ensures { (us : ℕ → ℕ) → Agrees at.words.of us → Done (plainly (repeat delay (expr_at program.now first) (stmt_at program.now second))) at us cells.old cells.new result }
+    requires { IsLaid tree.now × Ready (repeat delay (expr_in tree.now first) (stmt_in tree.now second)) at.cell (length cells.old) }
+    ensures { (us : ℕ → ℕ) → Agrees at.words.of us → Done (plainly (repeat delay (expr_in tree.now first) (stmt_in tree.now second))) at us cells.old cells.new result }
 {
     let ws = at.words;
-    let set = crate::counts::written(program, ends, second);
+    let set = crate::counts::written(tree, second);
     let n = crate::sets::many(set);
     let latches = crate::sets::placed(set, at.cell, ws);
     let waits = at.cell + n;
@@ -362,10 +322,10 @@ fn put_repeat(
         cell: waits + 1,
         words: latches,
     };
-    let p = put_stmt(cells, program, ends, second, body);
+    let p = put_stmt(cells, tree, second, body);
     let us = p.words;
     put(cells, p.cell, 34, delay, p.wire, 0);
-    let switch = put_switches(cells, program, ends, us, first, p.cell + 1, p.cell);
+    let switch = put_switches(cells, tree, us, first, p.cell + 1, p.cell);
     let end = put_round(cells, set, n, at, switch + 1, us, switch + 2);
     Place {
         wire: switch,

@@ -1,18 +1,17 @@
 -- A call of the simulator as a functional run: what it answers, what it leaves, and that the state of one that was not refused has its size.
 -- Assumes nothing.
-use mathlib.Core.List.{List, [], ◌∷◌}
+use Rattle.std.specs.Prelude.{Ok, Err}
+use mathlib.Core.List.{List}
 use mathlib.Core.Path.{◌≡◌, refl, sym, ◌∙◌, ap}
 use Prim.Native.Nat.{ℕ}
 use lib.ListN.{length}
 use Rattle.model.specs.declared.Answer.{Answer}
-use Rattle.model.specs.declared.Checked.{Checked}
-use Rattle.model.specs.declared.Checked.TheVariants.{Accepted, Refused}
 use Rattle.model.specs.declared.Format.{Format}
 use Rattle.model.specs.declared.Format.TheVariants.{Full}
 use Rattle.model.specs.declared.Outcome.{Outcome}
 use Rattle.model.specs.declared.Refusal.{Refusal}
-use Rattle.model.specs.Refusals.{first}
-use Rattle.model.specs.NetlistFile.{file_check, cells_of, last_check}
+use Rattle.model.specs.Refusals.{first, Checked, Accepted}
+use Rattle.model.specs.NetlistFile.{file_check}
 use Rattle.model.specs.State.{Course}
 use Rattle.model.specs.Calls.{Returned, verdict, refused_answer, running, going_on, begin_checks, begin_call, continue_checks, continue_call, start_checks, start_call, run_netlist_checks, run_netlist_call}
 use Rattle.model.specs.FunctionalCalls.{retold, in_mode, functionally}
@@ -20,22 +19,6 @@ use Rattle.laws.specs.Refusals.Laws.{not-refused}
 use Rattle.state.specs.Stands.{Runs}
 use Rattle.simulator.proofs.Refusing.{Tells, begin-accepted, continue-accepted, start-accepted, run-accepted}
 use Rattle.functional_runs.specs.Modes.{Ahead, with_last, retold_as}
-
--- Ahead of the call --------------------------------------------------------------------------------------------------------------------
-
-module _ {file : List ℕ} where
-  pub ahead_none : {c : Checked} → (file_check file ≡ Accepted → c ≡ last_check (cells_of file)) → c ≡ Accepted → Ahead file Accepted
-  ahead_none {c} told e = record { refused = λ r q. not-refused (sym q); left = λ _. go (file_check file) refl }
-    where
-      go : (f : Checked) → file_check file ≡ f → first (f ∷ last_check (cells_of file) ∷ []) ≡ f
-      go Accepted q = rw (sym (told q) ∙ e) refl
-      go (Refused r) q = refl
-
-  pub ahead-file : {q : Refusal} → file_check file ≡ Refused q → Ahead file (Refused q)
-  ahead-file e = record { refused = λ r p. rw e p; left = λ p. not-refused p }
-
-  pub ahead-last : {r : Refusal} → file_check file ≡ Accepted → last_check (cells_of file) ≡ Refused r → Ahead file (Refused r)
-  ahead-last e l = record { refused = λ q p. rw (e, l) p; left = λ p. not-refused p }
 
 -- How an answer is told ----------------------------------------------------------------------------------------------------------------
 
@@ -49,27 +32,27 @@ module _ (F : Format) (file : List ℕ) (a : Answer) (s : List ℕ) where
   told-refused e = rw (retold_as, e) refl
 
 module _ (F : Format) (file lent : List ℕ) where
-  pub mode-refused : {c : Checked} {r : Refusal} {a : Answer} (t : Returned Answer) → Ahead file c → c ≡ Refused r → a ≡ refused_answer r
+  pub mode-refused : {c : Checked} {r : Refusal} {a : Answer} (t : Returned Answer) → Ahead file c → c ≡ Err r → a ≡ refused_answer r
       → Tells (functionally F file lent t) a lent
   unfolding in_mode
   mode-refused {r = r} t H e p = rw (H.refused r e) (p, refl)
 
   -- a call that the file refuses leaves the list as it was
   abbrev Refuses : Returned Answer → Type 0
-  Refuses t = (q : Refusal) → file_check file ≡ Refused q → t ≡ record { answer = refused_answer q; lent = lent }
+  Refuses t = (q : Refusal) → file_check file ≡ Err q → t ≡ record { answer = refused_answer q; lent = lent }
 
   left_as : (t : Returned Answer) (c : Checked) → (retold F file c t).lent ≡ t.lent
   unfolding retold
-  left_as t Accepted = refl
-  left_as t (Refused r) = refl
+  left_as t (Ok _) = refl
+  left_as t (Err r) = refl
 
   in-mode : (t : Returned Answer) → Ahead file Accepted → Refuses t → functionally F file lent t ≡ retold F file (verdict t.answer.outcome) t
   unfolding in_mode retold verdict
   in-mode t H R = ap (λ (c : Checked). in_mode F file c lent t) (H.left refl) ∙ go (file_check file) refl
     where
       go : (c : Checked) → file_check file ≡ c → in_mode F file c lent t ≡ retold F file (verdict t.answer.outcome) t
-      go Accepted e = refl
-      go (Refused q) e = rw (R q e) refl
+      go (Ok _) e = refl
+      go (Err q) e = rw (R q e) refl
 
   pub mode-told : (t : Returned Answer) {c : Checked} {a b : Answer} {s : List ℕ} → Ahead file c → c ≡ Accepted → Refuses t → Tells t a s → b ≡ retold_as F file a s
       → Tells (functionally F file lent t) b s
@@ -81,13 +64,13 @@ module _ (F : Format) (file lent : List ℕ) where
 -- the checks of a call that was not refused accept
 run-behind : (F : Format) (c : Checked) (file s : List ℕ) (n : ℕ) (lent : List ℕ) → verdict (running F c file s n lent).answer.outcome ≡ Accepted → c ≡ Accepted
 unfolding running verdict
-run-behind F Accepted file s n lent e = refl
-run-behind F (Refused r) file s n lent e = not-refused e
+run-behind F (Ok _) file s n lent e = refl
+run-behind F (Err r) file s n lent e = not-refused e
 
 going-behind : (F : Format) (c : Checked) (file : List ℕ) (k : Course) (lent : List ℕ) → verdict (going_on F c file k lent).answer.outcome ≡ Accepted → c ≡ Accepted
 unfolding going_on verdict
-going-behind F Accepted file k lent e = refl
-going-behind F (Refused r) file k lent e = not-refused e
+going-behind F (Ok _) file k lent e = refl
+going-behind F (Err r) file k lent e = not-refused e
 
 -- a state as long as one that has its size
 pub same_size : {F : Format} {file lent s : List ℕ} → length s ≡ length lent → Runs F file lent → Runs F file s

@@ -1,11 +1,9 @@
 -- A call of the simulator as a functional run: what is checked ahead of it, and how its answer is told. Assumes nothing: definitions.
-use Rattle.std.specs.Prelude.{List, ◌≡◌, ℕ}
+use Rattle.std.specs.Prelude.{List, ◌≡◌, ℕ, Err}
 use Rattle.model.specs.declared.Answer.{Answer}
-use Rattle.model.specs.declared.Checked.{Checked}
-use Rattle.model.specs.declared.Checked.TheVariants.{Accepted}
 use Rattle.model.specs.declared.Format.{Format}
 use Rattle.model.specs.declared.Refusal.{Refusal}
-use Rattle.model.specs.Refusals.{first}
+use Rattle.model.specs.Refusals.{first, Checked, Accepted}
 use Rattle.model.specs.NetlistFile.{file_check, cells_of, last_words}
 use Rattle.model.specs.State.{now_at}
 use Rattle.model.specs.Calls.{verdict}
@@ -13,7 +11,7 @@ use Rattle.model.specs.FunctionalCalls.{last_checks, retold}
 
 -- c is the refusal of a file for a functional run; where there is none, the file's own refusals are still to come
 pub record Ahead (file : List ℕ) (c : Checked) : Type 0 where
-  pub refused : (r : Refusal) → c ≡ Checked.Refused r → first (last_checks file) ≡ Checked.Refused r
+  pub refused : (r : Refusal) → c ≡ Err r → first (last_checks file) ≡ Err r
   pub left : c ≡ Accepted → first (last_checks file) ≡ file_check file
 
 -- an answer with the words of the last sixteen cells in state s

@@ -3,8 +3,8 @@
 // The calls have no requires; their contracts are equations with model/FunctionalCalls.
 #![tactic(auto)]
 
+ghost use Rattle.model.specs.Refusals.{Accepted};
 ghost use Rattle.std.specs.Prelude.{◌≡◌};
-ghost use Rattle.model.specs.declared.Checked.TheVariants.{Accepted};
 ghost use Rattle.model.specs.NetlistFile.{cells_of, last_words};
 ghost use Rattle.model.specs.State.{now_at};
 ghost use Rattle.model.specs.Calls.{verdict};
@@ -19,17 +19,11 @@ use state::wires;
 fn check(netlist: &[u8]) -> Checked
     ensures { Ahead netlist.now result }
 {
-    let last = netlist::check_last(netlist);
-    match last {
-        Checked::Accepted => Checked::Accepted,
-        Checked::Refused(r) => {
-            let checked = netlist::check_file(netlist);
-            match checked {
-                Checked::Accepted => Checked::Refused(r),
-                Checked::Refused(q) => Checked::Refused(q),
-            }
-        }
+    if let Err(r) = netlist::check_last(netlist) {
+        netlist::check_file(netlist)?;
+        return Err(r);
     }
+    Ok(())
 }
 
 // The words that the last sixteen cells show.
@@ -39,11 +33,9 @@ fn last_words(format: Format, netlist: &[u8], state: &[u8]) -> [u16; 16]
 {
     let h = netlist::header::header_of(netlist);
     let first = netlist::rules::first_last(h.count);
-    let mut words = [0u16; 16];
-    let mut x: usize = 0;
-    while x < 16 {
-        words[x] = wires::now_at(format, state, first + x);
-        x += 1;
+    let mut words = [0; 16];
+    for (x, word) in words.iter_mut().enumerate() {
+        *word = wires::now_at(format, state, first + x);
     }
     words
 }
@@ -53,13 +45,9 @@ pub fn with_last(format: Format, netlist: &[u8], answer: Answer, state: &[u8]) -
     requires { Runs format netlist.now state.now }
     ensures { result ≡ with_last format netlist.now answer state.now }
 {
-    let words = last_words(format, netlist, state);
-    let outcome = answer.outcome;
     Answer {
-        outcome,
-        instant: answer.instant,
-        count: answer.count,
-        words,
+        words: last_words(format, netlist, state),
+        ..answer
     }
 }
 
@@ -68,10 +56,8 @@ fn retold(format: Format, netlist: &[u8], answer: Answer, state: &[u8]) -> Answe
     requires { verdict answer.outcome ≡ Accepted → Runs format netlist.now state.now }
     ensures { result ≡ retold_as format netlist.now answer state.now }
 {
-    let outcome = answer.outcome;
-    match outcome {
-        Outcome::Ended => with_last(format, netlist, answer, state),
-        Outcome::Open => with_last(format, netlist, answer, state),
+    match answer.outcome {
+        Outcome::Ended | Outcome::Open => with_last(format, netlist, answer, state),
         Outcome::Refused(_) => answer,
     }
 }
@@ -81,9 +67,8 @@ pub fn begin(format: Format, netlist: &[u8], words: &[u8], state: &mut [u8]) -> 
     ensures answer { result ≡ (begin_functional_call format netlist.now words.now state.old).answer }
     ensures lent { state.new ≡ (begin_functional_call format netlist.now words.now state.old).lent }
 {
-    let checked = check(netlist);
-    if let Checked::Refused(r) = checked {
-        return simulator::refused(r);
+    if let Err(r) = check(netlist) {
+        return Answer::refused(r);
     }
     let answer = simulator::begin(format, netlist, words, state);
     retold(format, netlist, answer, state)
@@ -94,9 +79,8 @@ pub fn continue_by(format: Format, netlist: &[u8], state: &mut [u8], n: u32) -> 
     ensures answer { result ≡ (continue_functional_call format netlist.now n state.old).answer }
     ensures lent { state.new ≡ (continue_functional_call format netlist.now n state.old).lent }
 {
-    let checked = check(netlist);
-    if let Checked::Refused(r) = checked {
-        return simulator::refused(r);
+    if let Err(r) = check(netlist) {
+        return Answer::refused(r);
     }
     let answer = simulator::continue_by(format, netlist, state, n);
     retold(format, netlist, answer, state)
@@ -107,9 +91,8 @@ pub fn start(format: Format, netlist: &[u8], state: &mut [u8]) -> Answer
     ensures answer { result ≡ (start_functional_call format netlist.now state.old).answer }
     ensures lent { state.new ≡ (start_functional_call format netlist.now state.old).lent }
 {
-    let checked = check(netlist);
-    if let Checked::Refused(r) = checked {
-        return simulator::refused(r);
+    if let Err(r) = check(netlist) {
+        return Answer::refused(r);
     }
     let answer = simulator::start(format, netlist, state);
     retold(format, netlist, answer, state)
@@ -120,9 +103,8 @@ pub fn run_netlist(netlist: &[u8], words: &[u8], budget: u32, state: &mut [u8]) 
     ensures answer { result ≡ (run_functional_call netlist.now words.now budget state.old).answer }
     ensures lent { state.new ≡ (run_functional_call netlist.now words.now budget state.old).lent }
 {
-    let checked = check(netlist);
-    if let Checked::Refused(r) = checked {
-        return simulator::refused(r);
+    if let Err(r) = check(netlist) {
+        return Answer::refused(r);
     }
     let answer = simulator::run_netlist(netlist, words, budget, state);
     retold(Format::Full, netlist, answer, state)

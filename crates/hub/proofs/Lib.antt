@@ -1,4 +1,2 @@
-pub mod Lent
-pub mod FullRun
-pub mod FullFunctional
+pub mod Cells
 pub mod OnTexts

@@ -1,15 +1,13 @@
 -- The calls on a text, where its table or its program was refused and where the program was given.
 -- Assumes nothing.
+use Rattle.std.specs.Prelude.{Err}
 use mathlib.Core.Path.{◌≡◌, refl, ◌∙◌, ap}
 use mathlib.Core.List.{List, [], ◌∷◌, ◌++◌}
 use Prim.Native.Nat.{ℕ}
 use lib.ListN.{length}
 use Rattle.model.specs.declared.Refusal.{Refusal}
 use Rattle.model.specs.declared.Options.{Options}
-use Rattle.model.specs.declared.Checked.{Checked}
-use Rattle.model.specs.declared.Checked.TheVariants.{Accepted, Refused}
-use Rattle.model.specs.declared.Written.{Written}
-use Rattle.model.specs.Refusals.{first}
+use Rattle.model.specs.Refusals.{first, Checked, Accepted}
 use Rattle.model.specs.ProgramChecks.{program_with}
 use Rattle.model.specs.Numbering.{finish}
 use Rattle.model.specs.NetlistFile.{net_of}
@@ -23,17 +21,17 @@ use Rattle.text.specs.Parsing.{parse_checks}
 use Rattle.text.proofs.Giving.{parse-refuses, parse-accepts}
 
 module _ (options : Options) (text lent : List ℕ) where
-  pub compile-unloaded : (r : Refusal) → given_check options ≡ Refused r → compile_text_call options text lent ≡ record { answer = Written.Refused r; lent = lent }
+  pub compile-unloaded : (r : Refusal) → given_check options ≡ Err r → compile_text_call options text lent ≡ record { answer = Err r; lent = lent }
   unfolding compile_text_call writing
   compile-unloaded r e = rw e refl
 
-  pub compile-refused : given_check options ≡ Accepted → (r : Refusal) → first (parse_checks text) ≡ Refused r
-      → compile_text_call options text lent ≡ record { answer = Written.Refused r; lent = lent }
+  pub compile-refused : given_check options ≡ Accepted → (r : Refusal) → first (parse_checks text) ≡ Err r
+      → compile_text_call options text lent ≡ record { answer = Err r; lent = lent }
   unfolding compile_text_call writing
   compile-refused a r e =
       let file = compiled_file options (text_program text) in
       let checks = text_checks text ++ netlist_checks options (text_program text) lent in
-      let first-is : first (compile_text_checks options text lent) ≡ Refused r =
+      let first-is : first (compile_text_checks options text lent) ≡ Err r =
       ap (λ (c : Checked). first (c ∷ checks)) a ∙ parse-refuses text options r (short (length lent) (length file) ∷ []) e in
       ap (λ (c : Checked). writing c file (length file) (finish (program_with options (text_program text))) lent) first-is
 
@@ -41,18 +39,18 @@ module _ (options : Options) (text lent : List ℕ) where
   compile-given e = compile-as-program options text lent (parse-accepts text e)
 
 module _ (options : Options) (text words : List ℕ) (n : ℕ) (for_file lent : List ℕ) where
-  pub run-unloaded : (r : Refusal) → given_check options ≡ Refused r
+  pub run-unloaded : (r : Refusal) → given_check options ≡ Err r
       → run_text_call options text words n for_file lent ≡ record { answer = refused_answer r; netlist = for_file; state = lent }
   unfolding run_text_call writing running
   run-unloaded r e = rw e refl
 
-  pub run-refused : given_check options ≡ Accepted → (r : Refusal) → first (parse_checks text) ≡ Refused r
+  pub run-refused : given_check options ≡ Accepted → (r : Refusal) → first (parse_checks text) ≡ Err r
       → run_text_call options text words n for_file lent ≡ record { answer = refused_answer r; netlist = for_file; state = lent }
   unfolding run_text_call writing running
   run-refused a r e =
       let file = compiled_file options (text_program text) in
       let checks = text_checks text ++ full_run_checks options (text_program text) words n for_file lent in
-      let first-is : first (run_text_checks options text words n for_file lent) ≡ Refused r =
+      let first-is : first (run_text_checks options text words n for_file lent) ≡ Err r =
       ap (λ (c : Checked). first (c ∷ checks)) a
       ∙ parse-refuses text options r
       (over_budget n ∷ short (length words) 544 ∷ short (length for_file) (length file) ∷ short (length lent) (state_size Full (net_of file)) ∷ []) e in

@@ -1,2 +1,3 @@
 -- Definitions that the contracts cite beside those of model.
 pub mod Lent
+pub mod Circuits

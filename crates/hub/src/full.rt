@@ -1,39 +1,76 @@
 // The full run of a program. Everything is checked before anything is written, because a refusal changes no lent byte.
-ghost use Rattle.std.specs.Prelude.{◌≡◌, ◌≤◌};
-ghost use Rattle.model.specs.declared.Checked.TheVariants.{Accepted};
+ghost use Rattle.std.specs.Prelude.{◌≡◌, ◌≤◌, List, ◌∷◌, ℕ, length};
+ghost use Rattle.model.specs.declared.Options.{Options};
+ghost use Rattle.model.specs.declared.Answer.{Answer};
 ghost use Rattle.model.specs.declared.Format.TheVariants.{Full};
-ghost use Rattle.model.specs.Refusals.{first};
-ghost use Rattle.model.specs.NetlistFile.{cell_limit};
-ghost use Rattle.model.specs.Calls.{overwrite, compiled_file, shows, full_state, full_count, run_program_checks, run_program_call};
-ghost use Rattle.hub.specs.Lent.{lent_checks};
+ghost use Rattle.model.specs.Refusals.{Checked, first, Accepted};
+ghost use Rattle.model.specs.Word.{Bytes};
+ghost use Rattle.model.specs.NetlistFile.{cell_limit, file_check};
+ghost use Rattle.model.specs.Calls.{ReturnedBoth, overwrite, shows, full_state, full_count};
+ghost use Rattle.state.specs.Stands.{Runs};
+ghost use Rattle.hub.specs.Lent.{lent_checks, asked, HasCells, Tells};
 
 use model::sizes::{
     BLOCK, BLOCK_CELLS, BLOCK_LAST, ELEMENTS, LAST_INSTANT, START_WORDS, STATE_CELL, STATE_HEADER,
 };
-use model::{Answer, Checked, Options};
+use model::{Answer, Checked, Options, refuse};
+
+// A kind of circuit that programs are compiled to.
+pub trait Circuit {
+    // The check of a program, the file of its netlist, what is told of a full run's answer, and the call of that run.
+    ghost checked: { Options → List ℕ → Checked };
+
+    ghost made: { Options → List ℕ → List ℕ };
+
+    ghost told: { List ℕ → Answer → List ℕ → Answer };
+
+    ghost called: { Options → List ℕ → List ℕ → ℕ → List ℕ → List ℕ → ReturnedBoth };
+
+    fn check(options: Options, program: &[u8]) -> Checked
+        ensures { result ≡ checked options program.now };
+
+    fn count_cells(options: Options, program: &[u8]) -> usize
+        requires { checked options program.now ≡ Accepted }
+        ensures { HasCells (made options program.now) result };
+
+    fn compile(options: Options, program: &[u8], netlist: &mut [u8]) -> usize
+        requires { (checked options program.now ≡ Accepted) × (length (made options program.now) ≤ length netlist.old) }
+        ensures length { result ≡ length (made options program.now) }
+        ensures lent { netlist.new ≡ overwrite (made options program.now) netlist.old };
+
+    fn tell(netlist: &[u8], answer: Answer, state: &[u8]) -> Answer
+        requires { Runs Full netlist.now state.now }
+        ensures { result ≡ told netlist.now answer state.now };
+
+    // The file of an accepted program's netlist is accepted.
+    ghost compiled: { (options : Options) (program : List ℕ) → Bytes program → checked options program ≡ Accepted → file_check (made options program) ≡ Accepted };
+
+    // The call tells what its checks and the run of that file say.
+    ghost tells: { (options : Options) (program words : List ℕ) (budget : ℕ) (netlist state : List ℕ) → Tells (first (checked options program ∷ asked (made options program) words budget netlist state)) told (made options program) words budget netlist state (called options program words budget netlist state) };
+}
 
 // Refusals 13 and 14, where the netlist has n cells.
-pub fn check_lent(n: usize, words: &[u8], budget: u32, netlist: &[u8], state: &[u8]) -> Checked
+fn check_lent(n: usize, words: &[u8], budget: u32, netlist: &[u8], state: &[u8]) -> Checked
     requires { n ≤ cell_limit }
     ensures { result ≡ first (lent_checks n words.now budget netlist.now state.now) }
 {
     if LAST_INSTANT < budget {
-        return simulator::checks::refuse(13);
+        return refuse(13, 0);
     }
     if words.len() < START_WORDS {
-        return simulator::checks::refuse(14);
+        return refuse(14, 0);
     }
     if netlist.len() < BLOCK * ((n + BLOCK_LAST) / BLOCK_CELLS) {
-        return simulator::checks::refuse(14);
+        return refuse(14, 0);
     }
     if state.len() < STATE_HEADER + STATE_CELL * n + ELEMENTS {
-        return simulator::checks::refuse(14);
+        return refuse(14, 0);
     }
-    Checked::Accepted
+    Ok(())
 }
 
-// Refusals 27, 19 to 21, 1 to 8, 22, 24 and 25, 13, 14.
-fn check(
+// The circuit's own refusals, 13, 14.
+fn check<C: Circuit>(
     options: Options,
     program: &[u8],
     words: &[u8],
@@ -41,18 +78,15 @@ fn check(
     netlist: &[u8],
     state: &[u8],
 ) -> Checked
-    ensures { result ≡ first (run_program_checks options program.now words.now budget netlist.now state.now) }
+    ensures { result ≡ first (C.checked options program.now ∷ asked (C.made options program.now) words.now budget netlist.now state.now) }
 {
-    let checked = program::check(options, program);
-    if let Checked::Refused(r) = checked {
-        return Checked::Refused(r);
-    }
-    let n = compiler::count_cells(options, program);
+    C::check(options, program)?;
+    let n = C::count_cells(options, program);
     check_lent(n, words, budget, netlist, state)
 }
 
 // The run of a program that was not refused.
-fn run_accepted(
+fn run_accepted<C: Circuit>(
     options: Options,
     program: &[u8],
     words: &[u8],
@@ -60,17 +94,18 @@ fn run_accepted(
     netlist: &mut [u8],
     state: &mut [u8],
 ) -> Answer
-    requires { first (run_program_checks options program.now words.now budget netlist.old state.old) ≡ Accepted }
-    ensures answer { result ≡ shows Full (compiled_file options program.now) (full_state (compiled_file options program.now) words.now budget state.old) (full_count (compiled_file options program.now) words.now budget state.old) }
-    ensures netlist { netlist.new ≡ overwrite (compiled_file options program.now) netlist.old }
-    ensures state { state.new ≡ full_state (compiled_file options program.now) words.now budget state.old }
+    requires { first (C.checked options program.now ∷ asked (C.made options program.now) words.now budget netlist.old state.old) ≡ Accepted }
+    ensures answer { result ≡ C.told (C.made options program.now) (shows Full (C.made options program.now) (full_state (C.made options program.now) words.now budget state.old) (full_count (C.made options program.now) words.now budget state.old)) (full_state (C.made options program.now) words.now budget state.old) }
+    ensures netlist { netlist.new ≡ overwrite (C.made options program.now) netlist.old }
+    ensures state { state.new ≡ full_state (C.made options program.now) words.now budget state.old }
 {
-    let length = compiler::compile_accepted(options, program, netlist);
-    simulator::runs::full_run(&netlist[0..length], words, budget, state)
+    let length = C::compile(options, program, netlist);
+    let answer = simulator::runs::full_run(&netlist[..length], words, budget, state);
+    C::tell(&netlist[..length], answer, state)
 }
 
 // A compiling, and a full run of what it wrote, in two lent buffers.
-pub fn run(
+pub fn run<C: Circuit>(
     options: Options,
     program: &[u8],
     words: &[u8],
@@ -78,13 +113,12 @@ pub fn run(
     netlist: &mut [u8],
     state: &mut [u8],
 ) -> Answer
-    ensures answer { result ≡ (run_program_call options program.now words.now budget netlist.old state.old).answer }
-    ensures netlist { netlist.new ≡ (run_program_call options program.now words.now budget netlist.old state.old).netlist }
-    ensures state { state.new ≡ (run_program_call options program.now words.now budget netlist.old state.old).state }
+    ensures answer { result ≡ (C.called options program.now words.now budget netlist.old state.old).answer }
+    ensures netlist { netlist.new ≡ (C.called options program.now words.now budget netlist.old state.old).netlist }
+    ensures state { state.new ≡ (C.called options program.now words.now budget netlist.old state.old).state }
 {
-    let checked = check(options, program, words, budget, netlist, state);
-    if let Checked::Refused(r) = checked {
-        return simulator::refused(r);
+    if let Err(r) = check::<C>(options, program, words, budget, netlist, state) {
+        return Answer::refused(r);
     }
-    run_accepted(options, program, words, budget, netlist, state)
+    run_accepted::<C>(options, program, words, budget, netlist, state)
 }

@@ -12,10 +12,11 @@ ghost use Rattle.model.specs.TextCalls.{read_text_call, compile_text_call, run_t
 ghost use Rattle.model.specs.PartCalls.{parts_in, join_call};
 
 mod full; // the full run of a program
-mod full_functional; // the full run of a program's functional circuit
+mod kinds; // the two kinds of circuit
 mod texts; // compiling and running a text
 
-use model::{Answer, Checked, Format, Options, Written};
+use crate::kinds::{Functional, Imperative};
+use model::{Answer, Checked, Format, Options, Refusal, Written};
 
 // What stands for 'nothing given' beside a program.
 pub fn defaults() -> Options
@@ -39,7 +40,7 @@ pub fn check(options: Options, program: &[u8]) -> Checked
 }
 
 // The program's netlist file, into a lent buffer.
-pub fn compile(options: Options, program: &[u8], file: &mut [u8]) -> Written
+pub fn compile(options: Options, program: &[u8], file: &mut [u8]) -> Result<Written, Refusal>
     ensures answer { result ≡ (compile_call options program.now file.old).answer }
     ensures lent { file.new ≡ (compile_call options program.now file.old).lent }
 {
@@ -53,21 +54,26 @@ pub fn join(
     pulses: &[u8],
     parts: &[u8],
     file: &mut [u8],
-) -> Written
+) -> Result<Written, Refusal>
     ensures answer { result ≡ (join_call options (parts_in lengths.now pulses.now parts.now) file.old).answer }
     ensures lent { file.new ≡ (join_call options (parts_in lengths.now pulses.now parts.now) file.old).lent }
 {
     joiner::join(options, lengths, pulses, parts, file)
 }
 
-pub fn write_netlist(pulse: u8, cells: &[u8], finish: u16, file: &mut [u8]) -> Written
+pub fn write_netlist(
+    pulse: u8,
+    cells: &[u8],
+    finish: u16,
+    file: &mut [u8],
+) -> Result<Written, Refusal>
     ensures answer { result ≡ (write_call pulse cells.now finish file.old).answer }
     ensures lent { file.new ≡ (write_call pulse cells.now finish file.old).lent }
 {
     netlist::write_netlist(pulse, cells, finish, file)
 }
 
-pub fn read_netlist(file: &[u8], cells: &mut [u8]) -> Written
+pub fn read_netlist(file: &[u8], cells: &mut [u8]) -> Result<Written, Refusal>
     ensures answer { result ≡ (read_call file.now cells.old).answer }
     ensures lent { cells.new ≡ (read_call file.now cells.old).lent }
 {
@@ -119,7 +125,7 @@ pub fn run_program(
     ensures netlist { netlist.new ≡ (run_program_call options program.now words.now budget netlist.old state.old).netlist }
     ensures state { state.new ≡ (run_program_call options program.now words.now budget netlist.old state.old).state }
 {
-    full::run(options, program, words, budget, netlist, state)
+    full::run::<Imperative>(options, program, words, budget, netlist, state)
 }
 
 // A second full run, in which operators take their time, with pulses of one instant: every cell's value at its last instant into a lent buffer; the other is
@@ -147,7 +153,7 @@ pub fn reference_run(options: Options, program: &[u8], words: &[u8], budget: u32
 }
 
 // The program that a text stands for, into a lent buffer.
-pub fn read_text(options: Options, source: &[u8], program: &mut [u8]) -> Written
+pub fn read_text(options: Options, source: &[u8], program: &mut [u8]) -> Result<Written, Refusal>
     ensures answer { result ≡ (read_text_call options source.now program.old).answer }
     ensures lent { program.new ≡ (read_text_call options source.now program.old).lent }
 {
@@ -155,7 +161,7 @@ pub fn read_text(options: Options, source: &[u8], program: &mut [u8]) -> Written
 }
 
 // The netlist file of a text's program.
-pub fn compile_text(options: Options, source: &[u8], file: &mut [u8]) -> Written
+pub fn compile_text(options: Options, source: &[u8], file: &mut [u8]) -> Result<Written, Refusal>
     ensures answer { result ≡ (compile_text_call options source.now file.old).answer }
     ensures lent { file.new ≡ (compile_text_call options source.now file.old).lent }
 {
@@ -188,7 +194,11 @@ pub fn check_functional(options: Options, program: &[u8]) -> Checked
 }
 
 // The file of the program's functional netlist, into a lent buffer.
-pub fn compile_functional(options: Options, program: &[u8], file: &mut [u8]) -> Written
+pub fn compile_functional(
+    options: Options,
+    program: &[u8],
+    file: &mut [u8],
+) -> Result<Written, Refusal>
     ensures answer { result ≡ (compile_functional_call options program.now file.old).answer }
     ensures lent { file.new ≡ (compile_functional_call options program.now file.old).lent }
 {
@@ -244,5 +254,5 @@ pub fn run_functional_program(
     ensures netlist { netlist.new ≡ (run_functional_program_call options program.now words.now budget netlist.old state.old).netlist }
     ensures state { state.new ≡ (run_functional_program_call options program.now words.now budget netlist.old state.old).state }
 {
-    full_functional::run(options, program, words, budget, netlist, state)
+    full::run::<Functional>(options, program, words, budget, netlist, state)
 }

@@ -10,7 +10,8 @@ use std::io::{Read, Write};
 fn main(rt: HostRuntime) -> io::Result<()> {
     let mut input = [0u8; 837];
     let mut count = 0;
-    while count < 837 {
+    // How many bytes a read gives is known only after it, so no `for` walks over them.
+    while count < input.len() {
         let read = rt.stdin().read(&mut input[count..])?;
         if read == 0 {
             break;

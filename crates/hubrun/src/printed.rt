@@ -10,13 +10,6 @@ ghost use Rattle.model.specs.Hubrun.{decimal, line, text_of, hubrun_text};
 use model::sizes::{COMPILED_FILE, COMPILED_STATE, START_WORDS, VARIABLES};
 use model::{Answer, Outcome};
 
-// A word as a number: a cast of an element, apart from its index.
-fn wide(word: u16) -> usize
-    ensures { result ≡ word }
-{
-    word as usize
-}
-
 // The line of sixteen words.
 fn put_words(out: &mut [u8], at: usize, words: [u16; 16]) -> usize
     requires { at + length (line (map decimal words)) ≤ length out.old }
@@ -24,12 +17,10 @@ fn put_words(out: &mut [u8], at: usize, words: [u16; 16]) -> usize
     ensures out { out.new ≡ sets out.old at (line (map decimal words)) }
 {
     let mut next = at;
-    let mut k: usize = 0;
-    while k < 15 {
-        next = lines::put_number(out, next, wide(words[k]), b' ');
-        k += 1;
+    for k in 0..15 {
+        next = lines::put_number(out, next, usize::from(words[k]), b' ');
     }
-    lines::put_number(out, next, wide(words[15]), b'\n')
+    lines::put_number(out, next, usize::from(words[15]), b'\n')
 }
 
 // The text of a run: the word of its outcome with a space, its instant, and the line of its words.
@@ -48,11 +39,9 @@ pub fn answer_text(answer: Answer, out: &mut [u8; 512]) -> usize
     ensures length { result ≡ length (text_of answer) }
     ensures out { out.new ≡ overwrite (text_of answer) out.old }
 {
-    let outcome = answer.outcome;
-    let words = answer.words;
-    match outcome {
-        Outcome::Ended => put_run(out, b"end ", answer.instant, words),
-        Outcome::Open => put_run(out, b"open ", answer.instant, words),
+    match answer.outcome {
+        Outcome::Ended => put_run(out, b"end ", answer.instant, answer.words),
+        Outcome::Open => put_run(out, b"open ", answer.instant, answer.words),
         Outcome::Refused(r) => lines::put_refusal(out, r.number, r.place),
     }
 }
@@ -63,7 +52,7 @@ fn start_words(given: &[u8]) -> [u8; 544]
     ensures { result ≡ given.now ++ replicate 512 0 }
 {
     let mut words = [0u8; START_WORDS];
-    word::put_bytes(&mut words, 0, given);
+    words[..VARIABLES].copy_from_slice(given);
     words
 }
 
@@ -76,9 +65,8 @@ fn run(input: &[u8]) -> Answer
     let words = start_words(&input[..VARIABLES]);
     let mut netlist = [0u8; COMPILED_FILE];
     let mut state = [0u8; COMPILED_STATE];
-    let options = hub::defaults();
     hub::run_program(
-        options,
+        hub::defaults(),
         &input[36..],
         &words,
         budget,
@@ -95,6 +83,5 @@ pub fn text(input: &[u8], out: &mut [u8; 512]) -> usize
     if input.len() < 36 {
         return lines::put_refusal(out, 1, 0);
     }
-    let answer = run(input);
-    answer_text(answer, out)
+    answer_text(run(input), out)
 }

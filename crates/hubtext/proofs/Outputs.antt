@@ -1,6 +1,7 @@
 -- What hubtext writes: the program's bytes, or the line of a refusal. Bytes of a text after 4,097 don't change it, so `main` need not read
 -- them.
 -- Assumes nothing.
+use Rattle.std.specs.Prelude.{Result, Err}
 use mathlib.Core.Path.{◌≡◌, refl, sym, ◌∙◌, ap}
 use mathlib.Core.List.{List, [], ◌∷◌}
 use Prim.Native.Nat.{ℕ, ◌+◌, ◌<◌, ◌≤◌}
@@ -15,8 +16,7 @@ use Rattle.model.specs.Calls.{overwrite, writing}
 use Rattle.model.specs.Hubrun.{decimal, line, refused_word}
 use Rattle.model.specs.declared.Refusal.{Refusal}
 use Rattle.model.specs.declared.Written.{Written}
-use Rattle.model.specs.declared.Written.TheVariants.{Done, Refused}
-use Rattle.model.specs.Refusals.{first}
+use Rattle.model.specs.Refusals.{first, Done}
 use Rattle.model.specs.TextCalls.{text_program, read_text_checks, read_text_call}
 use Rattle.model.specs.Hubtext.{written, hubtext_output}
 use Rattle.laws.specs.Refusals.Laws.{by_bool, refuse-unless, all-accept}
@@ -41,12 +41,12 @@ own = replicate 800 0
 module _ (text : List ℕ) where
   done-output : (n f : ℕ) → (read_text_call defaults text own).answer ≡ Done n f → hubtext_output text ≡ take n (read_text_call defaults text own).lent
   unfolding hubtext_output written
-  done-output n f e = ap (λ (a : Written). written a (read_text_call defaults text own).lent) e
+  done-output n f e = ap (λ (a : Result Written Refusal). written a (read_text_call defaults text own).lent) e
 
-  pub refused-output : (r : Refusal) → (read_text_call defaults text own).answer ≡ Refused r
+  pub refused-output : (r : Refusal) → (read_text_call defaults text own).answer ≡ Err r
       → hubtext_output text ≡ line (refused_word ∷ decimal r.number ∷ decimal r.place ∷ [])
   unfolding hubtext_output written
-  refused-output r e = ap (λ (a : Written). written a (read_text_call defaults text own).lent) e
+  refused-output r e = ap (λ (a : Result Written Refusal). written a (read_text_call defaults text own).lent) e
 
   -- a program that was written has room in the list
   pub done-fits : (n f : ℕ) → (read_text_call defaults text own).answer ≡ Done n f → n ≤ 800

@@ -10,7 +10,8 @@ use std::io::{Read, Write};
 fn main(rt: HostRuntime) -> io::Result<()> {
     let mut source = [0u8; 4097];
     let mut count = 0;
-    while count < 4097 {
+    // How many bytes a read gives is known only after it, so no `for` walks over them.
+    while count < source.len() {
         let read = rt.stdin().read(&mut source[count..])?;
         if read == 0 {
             break;

@@ -11,9 +11,8 @@ pub fn output(source: &[u8], out: &mut [u8; 1024]) -> usize
     ensures out { out.new ≡ overwrite (hubtext_output source.now) out.old }
 {
     let mut program = [0u8; PROGRAM_MOST];
-    let told = hub::read_text(hub::defaults(), source, &mut program);
-    match told {
-        Written::Done { count, finish: _ } => word::put_bytes(out, 0, &program[..count]),
-        Written::Refused(r) => lines::put_refusal(out, r.number, r.place),
+    match hub::read_text(hub::defaults(), source, &mut program) {
+        Ok(Written { count, .. }) => word::put_bytes(out, 0, &program[..count]),
+        Err(r) => lines::put_refusal(out, r.number, r.place),
     }
 }

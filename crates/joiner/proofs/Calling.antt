@@ -1,4 +1,5 @@
 -- The refusals of parts together, outcome by outcome, and the call that joins. Assumes nothing.
+use Rattle.std.specs.Prelude.{Err}
 use mathlib.Core.Path.{◌≡◌, refl, sym, ap, ap₂, subst, ◌∙◌}
 use mathlib.Core.Bool.{Bool, true, false, not, ◌&&◌, ◌||◌}
 use mathlib.Core.List.{List, [], ◌∷◌}
@@ -9,10 +10,7 @@ use lib.ListN.{length, get_or}
 use borrow.Author.Tests.{ltb-true, ltb-false, le-leb, lt-leb}
 use Rattle.model.specs.declared.Refusal.{Refusal}
 use Rattle.model.specs.declared.Options.{Options}
-use Rattle.model.specs.declared.Checked.{Checked}
-use Rattle.model.specs.declared.Checked.TheVariants.{Accepted, Refused}
-use Rattle.model.specs.Refusals.{refuse, refuse_if, first, first_fault}
-use Rattle.model.specs.declared.Written.{Written}
+use Rattle.model.specs.Refusals.{refuse, refuse_if, first, first_fault, Checked, Accepted}
 use Rattle.model.specs.Program.{Program}
 use Rattle.model.specs.ProgramChecks.{program_with}
 use Rattle.model.specs.NetlistFile.{cells_at, in_list}
@@ -29,9 +27,8 @@ use Rattle.netlist.proofs.Calls.{Tells}
 use Rattle.compiler.specs.declared.whole.Netlist.{Netlist}
 use Rattle.compiler.specs.Whole.{Made}
 use Rattle.compiler.proofs.Call.{list-room, compile-writes}
-use Rattle.joiner.specs.Cuts.{part_count}
 use Rattle.joiner.specs.Stands.{Given}
-use Rattle.joiner.proofs.Cuts.{count-is, pulse-is}
+use Rattle.joiner.proofs.Lent.{first-pulse}
 
 -- the number of parts, as it is tested
 number-test : (n : ℕ) → not (leb 2 n && leb n 8) ≡ (ltb n 2 || ltb 8 n)
@@ -41,36 +38,27 @@ number-test n =
     by_bool (ltb 8 n) (λ b. rw (a, b, le-leb 2 n (ltb-false n 2 a), lt-leb n 8 (ltb-true 8 n b)) refl)
     (λ b. rw (a, b, le-leb 2 n (ltb-false n 2 a), le-leb n 8 (ltb-false 8 n b)) refl))
 
-module _ (options : Options) (lengths pulses s : List ℕ) where
-  abbrev ps : List Part
-  ps = parts_in lengths pulses s
-
+module _ (options : Options) (ps : List Part) where
   abbrev all : Checked
   all = first (part_checks options ps)
 
-  pub own-refuses : {q : Refusal} → first (own_checks options ps) ≡ Refused q → Refused q ≡ all
+  pub own-refuses : {q : Refusal} → first (own_checks options ps) ≡ Err q → Err q ≡ all
   own-refuses {q} e = sym (refused-append (own_checks options ps) (joint_checks options ps) q e)
 
   module _ (own : first (own_checks options ps) ≡ Accepted) where
     abbrev nodes : Checked
-    nodes = first_fault (nodes_fault ps) 0 (part_count lengths)
+    nodes = first_fault (nodes_fault ps) 0 (length ps)
 
     abbrev differing : Checked
-    differing = first_fault (pulse_fault ps) 0 (part_count lengths)
+    differing = first_fault (pulse_fault ps) 0 (length ps)
 
     abbrev others : Checked
-    others = first_fault (other_fault options ps) 0 (part_count lengths)
+    others = first_fault (other_fault options ps) 0 (length ps)
 
-    module _ {n : ℕ} (count : n ≡ part_count lengths) where
+    module _ {n : ℕ} (count : n ≡ length ps) where
       joint : all ≡ first (refuse_if (ltb n 2 || ltb 8 n) 29 0 ∷ nodes ∷ differing ∷ others ∷ [])
       joint =
           first-append (own_checks options ps) (joint_checks options ps) own
-          ∙ ap
-          (λ (n : ℕ).
-          first
-          (refuse_if (not (leb 2 n && leb n 8)) 29 0
-          ∷ first_fault (nodes_fault ps) 0 n ∷ first_fault (pulse_fault ps) 0 n ∷ first_fault (other_fault options ps) 0 n ∷ []))
-          (sym (count-is lengths pulses s))
           ∙ ap (λ (b : Bool). first (refuse_if b 29 0 ∷ nodes ∷ differing ∷ others ∷ []))
           (ap (λ (n : ℕ). not (leb 2 n && leb n 8)) (sym count) ∙ number-test n)
 
@@ -81,11 +69,11 @@ module _ (options : Options) (lengths pulses s : List ℕ) where
         counted : all ≡ first (nodes ∷ differing ∷ others ∷ [])
         counted = joint ∙ ap (λ (b : Bool). first (refuse_if b 29 0 ∷ nodes ∷ differing ∷ others ∷ [])) t
 
-        pub nodes-refuse : {q : Refusal} → nodes ≡ Refused q → Refused q ≡ all
+        pub nodes-refuse : {q : Refusal} → nodes ≡ Err q → Err q ≡ all
         nodes-refuse e = sym (counted ∙ ap (λ (c : Checked). first (c ∷ differing ∷ others ∷ [])) e)
 
         module _ (few : nodes ≡ Accepted) where
-          pub pulses-refuse : {q : Refusal} → differing ≡ Refused q → Refused q ≡ all
+          pub pulses-refuse : {q : Refusal} → differing ≡ Err q → Err q ≡ all
           pulses-refuse e = sym (counted ∙ ap₂ (λ (c d : Checked). first (c ∷ d ∷ others ∷ [])) few e)
 
           pub files-decide : {r : Checked} → differing ≡ Accepted → r ≡ others → r ≡ all
@@ -94,8 +82,8 @@ module _ (options : Options) (lengths pulses s : List ℕ) where
 -- The call -------------------------------------------------------------------------------------------------------------------------------
 
 -- what the checks of parts refuse is refused
-pub join-refused : (options : Options) (ps : List Part) (lent : List ℕ) {q : Refusal} → first (part_checks options ps) ≡ Refused q
-    → Tells (Written.Refused q) lent (join_call options ps lent)
+pub join-refused : (options : Options) (ps : List Part) (lent : List ℕ) {q : Refusal} → first (part_checks options ps) ≡ Err q
+    → Tells (Err q) lent (join_call options ps lent)
 unfolding join_call writing
 join-refused options ps lent {q} e =
     rw (refused-append (part_checks options ps) (short (length lent) (length (whole_file options ps)) ∷ []) q e) (refl, refl)
@@ -108,11 +96,11 @@ module _ (options : Options) (lengths pulses s : List ℕ) (e : first (part_chec
   W = beside_whole options parts
 
   -- a list of 627 cells
-  pub given : Given options lengths pulses s 3762
+  pub given : Given options parts 3762
   given = record { accepted = e; size = refl }
 
   pulse-first : {w : ℕ} → w ≡ get_or pulses 0 0 → w ≡ W.pulse
-  pulse-first ew = ew ∙ sym (pulse-is lengths pulses s 0 (omega (arith, count-is lengths pulses s, (passing options parts e).many.0)))
+  pulse-first ew = ew ∙ sym (first-pulse lengths pulses s (omega (arith, (passing options parts e).many.0)))
 
   pub pulse-low : {w : ℕ} → w ≡ get_or pulses 0 0 → w ≤ 256
   pulse-low ew = omega (arith, pulse-first ew, (accepted-pulse W (whole_program parts) (whole-checked options parts e)).1)

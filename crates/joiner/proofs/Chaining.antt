@@ -10,15 +10,14 @@ use lib.ListN.{length, get_or}
 use lib.Seq.{sets}
 use Rattle.model.specs.declared.Cell.{Cell}
 use Rattle.model.specs.declared.Options.{Options}
-use Rattle.model.specs.declared.Checked.TheVariants.{Accepted}
-use Rattle.model.specs.Refusals.{first}
+use Rattle.model.specs.Refusals.{first, Accepted}
 use Rattle.model.specs.Program.{Code, ok, seq, Program, roots, stmt_at, program_of}
 use Rattle.model.specs.ProgramChecks.{program_with, check_of}
 use Rattle.model.specs.TimeTables.{given_check}
 use Rattle.model.specs.Numbering.{Wires, memory_wires, delay_count, exit_count, walk_count, finish_wire, delays, walk, or_count, wires_of, root_delay_count, root_walk_count, netlist, finish}
 use Rattle.model.specs.NetlistFile.{file_check, cells_of, finish_of, pulse_of}
 use Rattle.model.specs.Calls.{check_call, compiled_file}
-use Rattle.model.specs.PartCalls.{Part, part_at, parts_in, whole_program, beside_part, beside_whole, part_checks}
+use Rattle.model.specs.PartCalls.{Part, part_at, whole_program, beside_part, beside_whole, part_checks}
 use Rattle.model.specs.PartPromises.{part_statement, whole_statement, joined_program, EachPart}
 use Rattle.laws.specs.Refusals.Laws.{accept-all}
 use Rattle.laws.specs.Program.Fit.{Formed, Earlier, exits}
@@ -37,10 +36,7 @@ use Rattle.compiler.specs.Whole.{Fitting, root_assignments, root_marks, behind_a
 use Rattle.compiler.proofs.Roots.{earlier_more}
 use Rattle.compiler.proofs.Stmts.{ok-done, seq-done}
 use Rattle.compiler.proofs.Parts.{seq-first, seq-second}
-use Rattle.joiner.specs.declared.parts.Bounds.{Bounds}
-use Rattle.joiner.specs.Cuts.{part_count, part_of, parts_from, Cut}
 use Rattle.joiner.specs.Stands.{Compiled, Placeable, PartsReady}
-use Rattle.joiner.proofs.Cuts.{no-parts}
 use Rattle.joiner.proofs.Regions.{one-delays, one-walk, one-finish}
 use Rattle.joiner.proofs.Walking.{no-exits}
 
@@ -262,10 +258,7 @@ alike-whole : (options : Options) (ps : List Part) → first (part_checks option
 alike-whole options [] e = absurd (omega (arith, (passing options [] e).many.0))
 alike-whole options (p ∷ ps) e = alike p ps
 
-module _ (before : List ℕ) {options : Options} {lengths pulses s : List ℕ} {M : ℕ} (R : PartsReady options lengths pulses s M (length before)) where
-  abbrev ps : List Part
-  ps = parts_in lengths pulses s
-
+module _ (before : List ℕ) {options : Options} {ps : List Part} {M : ℕ} (R : PartsReady options ps M (length before)) where
   abbrev v : ℕ
   v = (part_at ps 0).pulse
 
@@ -278,16 +271,10 @@ module _ (before : List ℕ) {options : Options} {lengths pulses s : List ℕ} {
       let f = formed-chain v ps k in
       record { known = k; same = refl; ready = ready-alike (alike-whole options ps e) f.0 f.1 R.ready; goes = λ F after remarked r D. D }
 
-  module _ {marked cells marks : List ℕ} {p : Place} (i a : ℕ) (G₀ : Going v M ps before marked (parts_from lengths pulses s i a) cells marks p) where
-    module _ {b : Bounds} (C : Cut lengths s i a b) where
-      abbrev here : Part
-      here = part_of s a b (get_or pulses i 0)
-
-      abbrev rest : List Part
-      rest = parts_from lengths pulses s (i + 1) b.end
-
+  module _ {marked cells marks : List ℕ} {p : Place} {left : List Part} (G₀ : Going v M ps before marked left cells marks p) where
+    module _ {here : Part} {rest : List Part} (is : left ≡ here ∷ rest) where
       G : Going v M ps before marked (here ∷ rest) cells marks p
-      G = subst (λ (l : List Part). Going v M ps before marked l cells marks p) (C.parts pulses) G₀
+      G = subst (λ (l : List Part). Going v M ps before marked l cells marks p) is G₀
 
       ready-all : Ready M (seq (stmt_at here.program 0) (chained rest)) p (length before)
       unfolding chained
@@ -319,8 +306,8 @@ module _ (before : List ℕ) {options : Options} {lengths pulses s : List ℕ} {
           }
 
     -- all parts are put in
-    pub going_end : part_count lengths ≤ i → RootsDone (joined_program ps) [] M before cells marked marks p
+    pub going_end : left ≡ [] → RootsDone (joined_program ps) [] M before cells marked marks p
     unfolding chained root_marks root_assignments
-    going_end l =
-        let G = subst (λ (l : List Part). Going v M ps before marked l cells marks p) (no-parts lengths pulses s i a l) G₀ in
+    going_end none =
+        let G = subst (λ (l : List Part). Going v M ps before marked l cells marks p) none G₀ in
         roots-of (whole-earlier options ps e) (λ F. done-alike (alike-whole options ps e) (G.goes F cells marks p ok-done))

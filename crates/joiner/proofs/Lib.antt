@@ -1,5 +1,5 @@
 -- The laws behind the proofs of the functions.
-pub mod Cuts
+pub mod Lent
 pub mod Refusing
 pub mod Calling
 pub mod Renumber

@@ -1,4 +1,5 @@
 -- The arms of a renumbering, and that the inputs of a checked file's cells are numbers of its cells. Assumes nothing.
+use Rattle.model.specs.Refusals.{Accepted}
 use mathlib.Core.Path.{◌≡◌, refl, ap, subst, ◌∙◌}
 use mathlib.Core.Bool.{true}
 use mathlib.Core.List.{List}
@@ -7,7 +8,6 @@ use native.Mathlib.Omega.{arith}
 use native.Mathlib.Nat.{zero-add}
 use lib.ListN.{length}
 use borrow.Author.Tests.{eq-eqb, ne_eqb, lt-ltb, le-ltb}
-use Rattle.model.specs.declared.Checked.TheVariants.{Accepted}
 use Rattle.model.specs.declared.kinds.Use.{Use}
 use Rattle.model.specs.declared.kinds.Use.TheVariants.{Unknown, Unused, Value, Positive, ControlBelow, ControlAny, WordBelow, WordAny, ArrayBelow}
 use Rattle.model.specs.Circuit.{cell_at, cell_row, names}

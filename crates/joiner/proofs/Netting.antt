@@ -8,7 +8,7 @@ use lib.Seq.{length-sets}
 use Rattle.model.specs.declared.Options.{Options}
 use Rattle.model.specs.Program.{Code, Program, roots}
 use Rattle.model.specs.Numbering.{Source, delay_count, walk_count, calls_of, memory_at}
-use Rattle.model.specs.PartCalls.{Part, part_at, parts_in}
+use Rattle.model.specs.PartCalls.{Part, part_at}
 use Rattle.model.specs.PartPromises.{whole_statement, joined_program}
 use Rattle.laws.specs.Numbering.Count.{fits}
 use Rattle.laws.specs.Numbering.Parts.{net-length}
@@ -26,10 +26,7 @@ use Rattle.joiner.proofs.Chaining.{whole-formed, whole-earlier, whole-nodes, who
 pub marks-long : {S : Program} {cs : List Source} {M : ℕ} {before after ms marked : List ℕ} {e : Place} → Put S cs M before after ms marked e → length marked ≡ 800
 marks-long {S} {cs} {M} {ms = ms} p = ap length p.done.marks ∙ length-sets ms 0 (root_marks cs 0 (roots S) 3 (behind_arrays M)) ∙ p.long
 
-module _ {options : Options} {lengths pulses s : List ℕ} {n : ℕ} (G : Given options lengths pulses s n) where
-  abbrev ps : List Part
-  ps = parts_in lengths pulses s
-
+module _ {options : Options} {ps : List Part} {n : ℕ} (G : Given options ps n) where
   abbrev S : Program
   S = joined_program ps
 
@@ -43,7 +40,7 @@ module _ {options : Options} {lengths pulses s : List ℕ} {n : ℕ} (G : Given 
   no-calls : calls_of S ≡ []
   no-calls = calls-none v P (whole-earlier options ps G.accepted)
 
-  ready : {M : ℕ} → M + 24 ≤ 627 → 3 + delay_count P ≤ behind_arrays M → behind_arrays M + walk_count P ≤ 627 → PartsReady options lengths pulses s M n
+  ready : {M : ℕ} → M + 24 ≤ 627 → 3 + delay_count P ≤ behind_arrays M → behind_arrays M + walk_count P ≤ 627 → PartsReady options ps M n
   ready l a w =
       let k = few P in
       let h = whole-nodes options ps G.accepted in
@@ -63,13 +60,13 @@ module _ {options : Options} {lengths pulses s : List ℕ} {n : ℕ} (G : Given 
       }
 
   -- the first walk, behind memory 179, and the second
-  pub first-ready : PartsReady options lengths pulses s 179 n
+  pub first-ready : PartsReady options ps 179 n
   first-ready =
       let k = few P in
       let h = whole-nodes options ps G.accepted in
       ready (omega arith) (omega (arith, k, h)) (omega (arith, k, h))
 
-  pub last-ready : {M : ℕ} → M ≡ memory_at S → PartsReady options lengths pulses s M n
+  pub last-ready : {M : ℕ} → M ≡ memory_at S → PartsReady options ps M n
   last-ready m =
       let u = whole-earlier options ps G.accepted in
       let most = (fits S (whole-fitting options ps G.accepted).nodes).1 in

@@ -1,4 +1,5 @@
 -- Loops over the kinds of a file's cells, and what they tell of a compiled file. Assumes nothing.
+use Rattle.model.specs.Refusals.{Accepted}
 use mathlib.Core.Path.{◌≡◌, sym, ap, ap₂, ◌∙◌}
 use mathlib.Core.Bool.{Bool, true, false, ◌&&◌}
 use mathlib.Core.List.{List, [], ◌∷◌, ◌++◌}
@@ -10,7 +11,6 @@ use lib.ListN.{length, take, drop, length-drop}
 use lib.Seq.{take_all}
 use borrow.Author.Tests.{eq-eqb, ne_eqb}
 use Rattle.model.specs.declared.Cell.{Cell}
-use Rattle.model.specs.declared.Checked.TheVariants.{Accepted}
 use Rattle.model.specs.Word.{pick}
 use Rattle.model.specs.Program.{Code}
 use Rattle.model.specs.Numbering.{delay_count, walk_count, memory_at, walk_place, clocks_of, or_count_from, netlist}
@@ -36,44 +36,36 @@ run_short k (c ∷ cs) = go (eqb c.kind k) (run_short k cs)
     go true h = omega arith
     go false h = omega arith
 
--- the loop of a run: n cells of the kind have been seen
-module _ (s : List ℕ) (count kind from n : ℕ) where
+-- the loop of a run: what is left of it from cell i on
+module _ (s : List ℕ) (count kind i : ℕ) where
   abbrev left : List Cell
-  left = cells_at in_file s (from + n) (count - (from + n))
+  left = cells_at in_file s i (count - i)
 
-  split : from + n < count → left ≡ cell_from s (in_file (from + n)) ∷ cells_at in_file s (from + (n + 1)) (count - (from + (n + 1)))
+  split : i < count → left ≡ cell_from s (in_file i) ∷ cells_at in_file s (i + 1) (count - (i + 1))
   split l =
-      let e : from + n + 1 ≡ from + (n + 1) = omega arith in
-      let g : count - (from + n) - 1 ≡ count - (from + (n + 1)) = omega arith in
-      cells-more in_file s (from + n) (count - (from + n)) (omega arith)
-      ∙ ap₂ (λ (i m : ℕ). cell_from s (in_file (from + n)) ∷ cells_at in_file s i m) e g
+      let e : count - i - 1 ≡ count - (i + 1) = omega arith in
+      cells-more in_file s i (count - i) (omega arith) ∙ ap (λ (m : ℕ). cell_from s (in_file i) ∷ cells_at in_file s (i + 1) m) e
 
-  pub run_more : {c : Cell} → from + n < count → c ≡ cell_from s (in_file (from + n)) → c.kind ≡ kind
-      → n + kind_run kind left ≡ n + 1 + kind_run kind (cells_at in_file s (from + (n + 1)) (count - (from + (n + 1))))
+  pub run_more : {c : Cell} → i < count → c ≡ cell_from s (in_file i) → c.kind ≡ kind
+      → kind_run kind left ≡ 1 + kind_run kind (cells_at in_file s (i + 1) (count - (i + 1)))
   unfolding kind_run
   run_more {c} l e k =
-      let t : eqb (cell_from s (in_file (from + n))).kind kind ≡ true = ap (λ (c : Cell). eqb c.kind kind) (sym e) ∙ eq-eqb c.kind kind k in
-      let r = kind_run kind (cells_at in_file s (from + (n + 1)) (count - (from + (n + 1)))) in
-      ap (λ (l : List Cell). n + kind_run kind l) (split l) ∙ ap (λ (b : Bool). n + pick b (suc r) 0) t ∙ omega arith
+      let t : eqb (cell_from s (in_file i)).kind kind ≡ true = ap (λ (c : Cell). eqb c.kind kind) (sym e) ∙ eq-eqb c.kind kind k in
+      let r = kind_run kind (cells_at in_file s (i + 1) (count - (i + 1))) in
+      ap (kind_run kind) (split l) ∙ ap (λ (b : Bool). pick b (suc r) 0) t ∙ omega arith
 
-  pub run_end : {c : Cell} → from + n < count → c ≡ cell_from s (in_file (from + n)) → (c.kind ≡ kind → ⊥) → n + kind_run kind left ≡ n
+  pub run_end : {c : Cell} → i < count → c ≡ cell_from s (in_file i) → (c.kind ≡ kind → ⊥) → kind_run kind left ≡ 0
   unfolding kind_run
   run_end {c} l e k =
-      let t : eqb (cell_from s (in_file (from + n))).kind kind ≡ false = ap (λ (c : Cell). eqb c.kind kind) (sym e) ∙ ne_eqb c.kind kind k in
-      let r = kind_run kind (cells_at in_file s (from + (n + 1)) (count - (from + (n + 1)))) in
-      ap (λ (l : List Cell). n + kind_run kind l) (split l) ∙ ap (λ (b : Bool). n + pick b (suc r) 0) t ∙ omega arith
+      let t : eqb (cell_from s (in_file i)).kind kind ≡ false = ap (λ (c : Cell). eqb c.kind kind) (sym e) ∙ ne_eqb c.kind kind k in
+      let r = kind_run kind (cells_at in_file s (i + 1) (count - (i + 1))) in
+      ap (kind_run kind) (split l) ∙ ap (λ (b : Bool). pick b (suc r) 0) t
 
-  pub run-all : count ≤ from + n → n + kind_run kind left ≡ n
+  pub run-all : count ≤ i → kind_run kind left ≡ 0
   unfolding kind_run cells_at
   run-all l =
-      let e : count - (from + n) ≡ 0 = omega arith in
-      ap (λ (m : ℕ). n + kind_run kind (cells_at in_file s (from + n) m)) e ∙ omega arith
-
-pub run-first : (s : List ℕ) (count kind from : ℕ)
-    → kind_run kind (cells_at in_file s from (count - from)) ≡ 0 + kind_run kind (cells_at in_file s (from + 0) (count - (from + 0)))
-run-first s count kind from =
-    let e : from ≡ from + 0 = omega arith in
-    ap (λ (k : ℕ). kind_run kind (cells_at in_file s k (count - k))) e ∙ omega arith
+      let e : count - i ≡ 0 = omega arith in
+      ap (λ (m : ℕ). kind_run kind (cells_at in_file s i m)) e
 
 -- the loop that cuts off: n cells are left
 cells-snoc : (at : ℕ → ℕ) (s : List ℕ) (i n : ℕ) → cells_at at s i (suc n) ≡ cells_at at s i n ++ (cell_from s (at (i + n)) ∷ [])

@@ -1,5 +1,5 @@
 -- Definitions that the contracts cite beside those of model.
-pub mod Cuts
+pub mod Lent
 pub mod Moving
 pub mod Kinds
 pub mod Stands

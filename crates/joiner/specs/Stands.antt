@@ -2,9 +2,8 @@
 use Rattle.std.specs.Prelude.{◌≡◌, true, List, ℕ, ◌+◌, ◌*◌, ◌<◌, ◌≤◌}
 use Rattle.model.specs.declared.Cell.{Cell}
 use Rattle.model.specs.declared.Options.{Options}
-use Rattle.model.specs.declared.Checked.TheVariants.{Accepted}
-use Rattle.model.specs.Refusals.{first}
-use Rattle.model.specs.PartCalls.{parts_in, part_checks}
+use Rattle.model.specs.Refusals.{first, Accepted}
+use Rattle.model.specs.PartCalls.{Part, part_checks}
 use Rattle.model.specs.PartPromises.{whole_statement}
 use Rattle.model.specs.Program.{Code, stmt_at}
 use Rattle.model.specs.Circuit.{cell_row, names}
@@ -80,23 +79,21 @@ pub record Placeable (M : ℕ) (program file : List ℕ) (p : Place) (n : ℕ) :
   pub enclosed : exit_count (stmt_at program 0) ≡ 0
   pub ready : Ready M (stmt_at program 0) p n
 
--- parts that are accepted, in the bytes that are lent, and a list of n bytes for the cells of the whole
-pub record Given (options : Options) (lengths pulses parts : List ℕ) (n : ℕ) : Type 0 where
-  pub accepted : first (part_checks options (parts_in lengths pulses parts)) ≡ Accepted
+-- parts that are accepted, and a list of n bytes for the cells of the whole
+pub record Given (options : Options) (ps : List Part) (n : ℕ) : Type 0 where
+  pub accepted : first (part_checks options ps) ≡ Accepted
   pub size : n ≡ 3762
 
 -- and the whole's statement goes there; the first memory is M
-pub record PartsReady (options : Options) (lengths pulses parts : List ℕ) (M n : ℕ) : Type 0 where
-  pub given : Given options lengths pulses parts n
-  pub ready : Ready M (whole_statement (parts_in lengths pulses parts)) (place 0 3 (behind_arrays M) 0 0) n
+pub record PartsReady (options : Options) (ps : List Part) (M n : ℕ) : Type 0 where
+  pub given : Given options ps n
+  pub ready : Ready M (whole_statement ps) (place 0 3 (behind_arrays M) 0 0) n
 
--- with some options and pulse lengths
-pub record SomeGiven (lengths parts : List ℕ) (n : ℕ) : Type 0 where
+-- with some options
+pub record SomeGiven (ps : List Part) (n : ℕ) : Type 0 where
   pub options : Options
-  pub pulses : List ℕ
-  pub given : Given options lengths pulses parts n
+  pub given : Given options ps n
 
-pub record SomeReady (lengths parts : List ℕ) (M n : ℕ) : Type 0 where
+pub record SomeReady (ps : List Part) (M n : ℕ) : Type 0 where
   pub options : Options
-  pub pulses : List ℕ
-  pub parts-ready : PartsReady options lengths pulses parts M n
+  pub parts-ready : PartsReady options ps M n

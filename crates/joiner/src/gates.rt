@@ -14,23 +14,20 @@ pub fn put_gates(gates: &mut [u16], program: &[u8]) -> usize
     ensures put { gates.new ≡ sets gates.old 0 (gates_in (nodes_at program.now 0)) }
 {
     let nodes = program.len() / NODE;
-    let mut i: usize = 0;
     let mut next: usize = 0;
-    while i < nodes {
+    for i in 0..nodes {
         let node = program::nodes::read_node(program, i);
-        if node.kind == 18 {
-            gates[next] = node.n;
-            next += 1;
-            i += 1;
-        } else {
-            if node.kind == 24 {
+        match node.kind {
+            18 => {
+                gates[next] = node.n;
+                next += 1;
+            }
+            24 => {
                 gates[next] = 16 + node.n;
                 gates[next + 1] = 20;
                 next += 2;
-                i += 1;
-            } else {
-                i += 1;
             }
+            _ => {}
         }
     }
     next

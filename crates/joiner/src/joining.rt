@@ -1,16 +1,16 @@
 // The parts, put in one after another as the compiler's walk would put their sequence in: each part's cells moved, and its marks.
-ghost use Rattle.std.specs.Prelude.{ℕ, length, List, []};
+ghost use Rattle.std.specs.Prelude.{ℕ, length, []};
 ghost use Rattle.model.specs.declared.Options.{Options};
 ghost use Rattle.model.specs.Program.{stmt_at};
 ghost use Rattle.model.specs.NetlistFile.{pulse_of};
-ghost use Rattle.model.specs.PartCalls.{parts_in};
 ghost use Rattle.model.specs.PartPromises.{joined_program};
 ghost use Rattle.compiler.specs.Walk.{Done};
 ghost use Rattle.compiler.specs.Whole.{RootsDone, Made};
+ghost use Rattle.joiner.specs.Lent.{parts_left};
 ghost use Rattle.joiner.specs.Stands.{Placeable, Given, PartsReady, SomeGiven, SomeReady};
 
 use crate::moving::Spot;
-use crate::parts::{count, find};
+use crate::parts::Parts;
 use compiler::walk::Place;
 use compiler::whole::Netlist;
 
@@ -53,17 +53,10 @@ fn place_part(
 }
 
 // The parts one after another: each starts with the finish of the one before.
-fn put_parts(
-    cells: &mut [u8],
-    marks: &mut [u16; 800],
-    lengths: &[u32],
-    parts: &[u8],
-    memory: u16,
-) -> Place
-    requires { SomeReady lengths.now parts.now memory (length cells.old) }
-    ensures { (options : Options) (pulses : List ℕ) → PartsReady options lengths.now pulses parts.now memory (length cells.old) → RootsDone (joined_program (parts_in lengths.now pulses parts.now)) [] memory cells.old cells.new marks.old marks.new result }
+fn put_parts(cells: &mut [u8], marks: &mut [u16; 800], parts: Parts, memory: u16) -> Place
+    requires { SomeReady (parts_left parts) memory (length cells.old) }
+    ensures { (options : Options) → PartsReady options (parts_left parts.entry) memory (length cells.old) → RootsDone (joined_program (parts_left parts.entry)) [] memory cells.old cells.new marks.old marks.new result }
 {
-    let n = count(lengths);
     let mut at = Place {
         wire: 0,
         delay: 3,
@@ -71,35 +64,21 @@ fn put_parts(
         mark: 0,
         out: 0,
     };
-    let mut i: usize = 0;
-    let mut start: usize = 0;
-    while i < n {
-        let found = find(lengths, parts, i, start);
-        let middle = found.middle;
-        let end = found.end;
-        at = place_part(
-            cells,
-            marks,
-            &parts[start..middle],
-            &parts[middle..end],
-            memory,
-            at,
-        );
-        start = end;
-        i += 1;
+    for part in parts {
+        at = place_part(cells, marks, part.program, part.file, memory, at);
     }
     at
 }
 
 // The netlist of the whole. As in compiling, the walk is put in twice: the first time it tells where the memories begin.
-pub fn put_netlist(cells: &mut [u8], lengths: &[u32], parts: &[u8]) -> Netlist
-    requires { SomeGiven lengths.now parts.now (length cells.old) }
-    ensures { (options : Options) (pulses : List ℕ) → Given options lengths.now pulses parts.now (length cells.old) → Made (joined_program (parts_in lengths.now pulses parts.now)) cells.new result }
+pub fn put_netlist(cells: &mut [u8], parts: Parts) -> Netlist
+    requires { SomeGiven (parts_left parts) (length cells.old) }
+    ensures { (options : Options) → Given options (parts_left parts.entry) (length cells.old) → Made (joined_program (parts_left parts.entry)) cells.new result }
 {
     let mut marks = [0u16; 800];
-    let first = put_parts(cells, &mut marks, lengths, parts, 179);
+    let first = put_parts(cells, &mut marks, parts, 179);
     let clocks = compiler::whole::join_clocks(cells, &marks, first);
-    let end = put_parts(cells, &mut marks, lengths, parts, clocks.memory);
+    let end = put_parts(cells, &mut marks, parts, clocks.memory);
     let walked = compiler::whole::join_words(cells, &marks, end);
     compiler::whole::close(cells, clocks, walked)
 }

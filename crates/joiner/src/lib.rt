@@ -14,8 +14,9 @@ pub mod gates; // what a part's cells of kind 41 are for
 pub mod marks; // the marks of its assignments
 pub mod joining; // the parts put in one after another, and the netlist of the whole
 
+use crate::parts::Parts;
 use model::sizes::COMPILED_MOST;
-use model::{Checked, Options, Written};
+use model::{Checked, Options, Refusal, Written};
 
 // Joins parts: of each 27, 19 to 21, 1 to 8, 22, 24 and 25, and 9 to 12; 29, 30, 31; 14. The lent bytes are each part's program and its netlist file,
 // the lengths are those of these, in that order, and each part has its pulse length.
@@ -25,17 +26,23 @@ pub fn join(
     pulses: &[u8],
     parts: &[u8],
     netlist: &mut [u8],
-) -> Written
+) -> Result<Written, Refusal>
     ensures answer { result ≡ (join_call options (parts_in lengths.now pulses.now parts.now) netlist.old).answer }
     ensures lent { netlist.new ≡ (join_call options (parts_in lengths.now pulses.now parts.now) netlist.old).lent }
 {
-    let checked = checks::check_parts(options, lengths, pulses, parts);
-    if let Checked::Refused(r) = checked {
-        return Written::Refused(r);
-    }
+    let parts = Parts {
+        lengths,
+        pulses,
+        bytes: parts,
+    };
+    checks::check_parts(options, parts)?;
     let mut cells = [0u8; COMPILED_MOST];
-    let made = joining::put_netlist(&mut cells, lengths, parts);
-    let n = made.count as usize;
-    let pulse = parts::pulse_at(pulses, 0);
-    netlist::write_file(netlist, &cells, n, pulse as u16, made.finish)
+    let made = joining::put_netlist(&mut cells, parts);
+    netlist::write_file(
+        netlist,
+        &cells,
+        made.count as usize,
+        u16::from(parts.pulse()),
+        made.finish,
+    )
 }

@@ -14,7 +14,7 @@ use netlist::cells::Layout;
 fn gate_at(gates: &[u16], g: usize) -> u16
     ensures { result ≡ get_or gates.now g 0 }
 {
-    if g < gates.len() { gates[g] } else { 0 }
+    gates.get(g).copied().unwrap_or(0)
 }
 
 // The cell of an index stands next to its value's.
@@ -54,18 +54,14 @@ pub fn put_marks(
     ensures next { result ≡ mark + length (gate_marks from (cells_at in_list cells.now from (end - from)) gates.now) }
     ensures put { marks.new ≡ sets marks.old mark (gate_marks from (cells_at in_list cells.now from (end - from)) gates.now) }
 {
-    let mut i = from;
     let mut g: usize = 0;
     let mut next = mark;
-    while i < end {
+    for i in from..end {
         let c = netlist::cells::cell_at(cells, Layout::InList, i);
         if c.kind == 41 {
             let x = gate_at(gates, g);
             next = put_gate(marks, next, x, c.a, i as u16);
             g += 1;
-            i += 1;
-        } else {
-            i += 1;
         }
     }
     next

@@ -78,15 +78,11 @@ pub fn put_moved(cells: &mut [u8], i: usize, file: &[u8], k: usize, n: usize, at
     ensures { cells.new ≡ sets cells.old i (cell_bytes (map (rewired (moves at)) (cells_at in_file file.now k n))) }
 {
     let mut to = i;
-    let mut from = k;
-    let mut left = n;
-    while 0 < left {
+    for from in k..k + n {
         let c = netlist::cells::cell_at(file, Layout::InFile, from);
         let moved = rewired(c, at);
         netlist::cells::put_cell(cells, to, moved, 0);
-        to += 6;
-        from += 1;
-        left -= 1;
+        to += CELL;
     }
 }
 

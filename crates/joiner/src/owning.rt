@@ -1,6 +1,6 @@
 // The regions of a part's netlist file, told by the kinds of its cells.
+ghost use Rattle.model.specs.Refusals.{Accepted};
 ghost use Rattle.std.specs.Prelude.{◌≡◌, ℕ, ◌-◌, ◌≤◌};
-ghost use Rattle.model.specs.declared.Checked.TheVariants.{Accepted};
 ghost use Rattle.model.specs.Program.{Code};
 ghost use Rattle.model.specs.NetlistFile.{cells_at, in_file, file_check};
 ghost use Rattle.netlist.specs.Offsets.{Room};
@@ -16,15 +16,13 @@ fn run_of(file: &[u8], count: usize, kind: u8, from: usize) -> usize
     requires { Room InFile file.now count × (from ≤ count) }
     ensures { result ≡ kind_run kind (cells_at in_file file.now from (count - from)) }
 {
-    let mut n: usize = 0;
-    while from + n < count {
-        let c = netlist::cells::cell_at(file, Layout::InFile, from + n);
+    for i in from..count {
+        let c = netlist::cells::cell_at(file, Layout::InFile, i);
         if c.kind != kind {
-            return n;
+            return i - from;
         }
-        n += 1;
     }
-    n
+    count - from
 }
 
 // How many of them there are without those of kind 7 at the end.
@@ -32,23 +30,11 @@ fn past_walk(file: &[u8], count: usize) -> usize
     requires { Room InFile file.now count }
     ensures { result ≡ trimmed (cells_at in_file file.now 0 count) }
 {
-    let mut n = count;
-    while 0 < n {
-        let c = netlist::cells::cell_at(file, Layout::InFile, n - 1);
+    for i in (0..count).rev() {
+        let c = netlist::cells::cell_at(file, Layout::InFile, i);
         if c.kind != 7 {
-            return n;
+            return i + 1;
         }
-        n -= 1;
-    }
-    0
-}
-
-// A difference, 0 where there is none.
-fn less(a: usize, b: usize) -> usize
-    ensures { result ≡ a - b }
-{
-    if b <= a {
-        return a - b;
     }
     0
 }
@@ -63,7 +49,7 @@ pub fn own_of(file: &[u8]) -> Own
     let ors = run_of(file, count, 35, 3 + delays);
     let memory = 3 + delays + ors;
     let end = past_walk(file, count);
-    let walk = less(end, memory + 24);
+    let walk = end.saturating_sub(memory + 24);
     Own {
         memory: memory as u16,
         delays: delays as u16,

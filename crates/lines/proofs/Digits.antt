@@ -49,3 +49,5 @@ digits-length (suc m) n =
 
 pub decimal-length : (n : ℕ) → length (decimal n) ≤ 20
 decimal-length n = digits-length 20 n
+
+pub ruleset by_digits = (decimal-one, decimal-more, decimal-more-length)

@@ -11,8 +11,8 @@ use Rattle.laws.specs.Lists.Writes.{sets-append}
 
 module _ (d v : List ℕ) (at b : ℕ) {d' : List ℕ} {k : ℕ} where
   -- a byte after what was put in
-  pub put-after : k ≡ at + length v → d' ≡ sets d at v → set d' k b ≡ sets d at (v ++ (b ∷ []))
-  put-after e f = rw (e, f) (sym (sets-append d at v (b ∷ [])))
+  pub put_after : k ≡ at + length v → d' ≡ sets d at v → set d' k b ≡ sets d at (v ++ (b ∷ []))
+  put_after e f = rw (e, f) (sym (sets-append d at v (b ∷ [])))
 
   -- the rest after a number and its byte
   pub put_rest : (rest : List ℕ) → k ≡ at + length v + 1 → d' ≡ sets d at (v ++ (b ∷ [])) → sets d at (v ++ (b ∷ rest)) ≡ sets d' k rest

@@ -7,22 +7,24 @@ ghost use Rattle.std.proofs.lemmas.List.Edits.{sets};
 ghost use Rattle.model.specs.Calls.{overwrite};
 ghost use Rattle.model.specs.Hubrun.{decimal, line, refused_word};
 
-// A number, without a zero in front: the digits of n / 10, and the last one.
+// A number, without a zero in front: the digits of n / 10, and the last one. A recursion, since the last digit is known first.
+#[tactic(auto, using(crate::proofs::Digits::by_digits))]
 pub fn put_decimal(out: &mut [u8], at: usize, n: usize) -> usize
     requires { at + length (decimal n) ≤ length out.old }
     ensures next { result ≡ at + length (decimal n) }
     ensures out { out.new ≡ sets out.old at (decimal n) }
 {
     if n < 10 {
-        out[at] = 48 + n as u8;
+        out[at] = b'0' + n as u8;
         return at + 1;
     }
     let last = put_decimal(out, at, n / 10);
-    out[last] = 48 + (n % 10) as u8;
+    out[last] = b'0' + (n % 10) as u8;
     last + 1
 }
 
 // A number and the byte after it: a space, or the line feed.
+#[tactic(auto, using(crate::proofs::Puts::put_after))]
 pub fn put_number(out: &mut [u8], at: usize, n: usize, after: u8) -> usize
     requires { at + length (decimal n) + 1 ≤ length out.old }
     ensures next { result ≡ at + length (decimal n) + 1 }

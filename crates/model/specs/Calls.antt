@@ -3,21 +3,18 @@
 -- A call that checks a program takes what is given beside it, as it is loaded: 27, of its pulse length, and 19 to 21, of its table, come first. A call on
 -- a netlist or a state goes by the pulse length that the file tells.
 -- Assumes nothing: definitions.
-use Rattle.std.specs.Prelude.{Bool, true, false, not, ◌&&◌, ◌||◌, List, [], ◌∷◌, ◌++◌, ℕ, zero, suc, ◌+◌, ◌*◌, ◌/◌, ◌%◌, ltb, length, drop, replicate}
+use Rattle.std.specs.Prelude.{Bool, true, false, not, ◌&&◌, ◌||◌, List, [], ◌∷◌, ◌++◌, ℕ, zero, suc, ◌+◌, ◌*◌, ◌/◌, ◌%◌, ltb, length, drop, replicate, Result, Ok, Err}
 use Rattle.model.specs.declared.Refusal.{Refusal}
 use Rattle.model.specs.declared.Options.{Options}
-use Rattle.model.specs.declared.Checked.{Checked}
-use Rattle.model.specs.declared.Checked.TheVariants.{Accepted}
 use Rattle.model.specs.declared.Outcome.{Outcome}
 use Rattle.model.specs.declared.Outcome.TheVariants.{Ended, Open}
 use Rattle.model.specs.declared.Written.{Written}
-use Rattle.model.specs.declared.Written.TheVariants.{Done}
 use Rattle.model.specs.declared.Answer.{Answer}
 use Rattle.model.specs.declared.Cell.{Cell}
 use Rattle.model.specs.declared.Format.{Format}
 use Rattle.model.specs.declared.Format.TheVariants.{Full, Compact}
 use Rattle.model.specs.Word.{pick, get16}
-use Rattle.model.specs.Refusals.{refuse_if, first}
+use Rattle.model.specs.Refusals.{refuse_if, first, Checked, Accepted, Done}
 use Rattle.model.specs.Procedures.{meaning}
 use Rattle.model.specs.ProgramChecks.{program_with, check_of}
 use Rattle.model.specs.Rules.{imperative, Store, Run, at_end, at_exit, done, still, run}
@@ -38,11 +35,11 @@ pub record Returned (A : Type 0) : Type 0 where
 unfoldable pub verdict : Outcome → Checked
 verdict Ended = Accepted
 verdict Open = Accepted
-verdict (Outcome.Refused r) = Checked.Refused r
+verdict (Outcome.Refused r) = Err r
 
-unfoldable pub written_verdict : Written → Checked
-written_verdict (Done n f) = Accepted
-written_verdict (Written.Refused r) = Checked.Refused r
+unfoldable pub written_verdict : Result Written Refusal → Checked
+written_verdict (Ok w) = Accepted
+written_verdict (Err r) = Err r
 
 -- "Lent bytes past a result keep their values."
 abbrev pub overwrite : List ℕ → List ℕ → List ℕ
@@ -59,9 +56,9 @@ unfoldable pub check_call : Options → List ℕ → Checked
 check_call options program = first (given_check options ∷ check_of options program ∷ [])
 
 -- a result of n bytes or cells is written over a lent list, unless a check refuses it
-unfoldable pub writing : Checked → List ℕ → ℕ → ℕ → List ℕ → Returned Written
-writing Accepted result n f lent = record { answer = Done n f; lent = overwrite result lent }
-writing (Checked.Refused r) result n f lent = record { answer = Written.Refused r; lent = lent }
+unfoldable pub writing : Checked → List ℕ → ℕ → ℕ → List ℕ → Returned (Result Written Refusal)
+writing (Ok _) result n f lent = record { answer = Done n f; lent = overwrite result lent }
+writing (Err r) result n f lent = record { answer = Err r; lent = lent }
 
 -- compiling: 27, 19 to 21, 1 to 8, 22, 24 and 25, 14
 abbrev pub compiled_file : Options → List ℕ → List ℕ
@@ -73,7 +70,7 @@ netlist_checks options program lent = check_of options program ∷ short (length
 abbrev pub compile_checks : Options → List ℕ → List ℕ → List Checked
 compile_checks options program lent = given_check options ∷ netlist_checks options program lent
 
-unfoldable pub compile_call : Options → List ℕ → List ℕ → Returned Written
+unfoldable pub compile_call : Options → List ℕ → List ℕ → Returned (Result Written Refusal)
 compile_call options program lent =
     let file = compiled_file options program in
     writing (first (compile_checks options program lent)) file (length file) (finish (program_with options program)) lent
@@ -92,7 +89,7 @@ write_checks w cells f lent =
     ∷ short (length lent) (length (file_of w net f))
     ∷ []
 
-unfoldable pub write_call : ℕ → List ℕ → ℕ → List ℕ → Returned Written
+unfoldable pub write_call : ℕ → List ℕ → ℕ → List ℕ → Returned (Result Written Refusal)
 write_call w cells f lent =
     let file = file_of w (cells_in cells) f in
     writing (first (write_checks w cells f lent)) file (length file) f lent
@@ -101,7 +98,7 @@ write_call w cells f lent =
 abbrev pub read_checks : List ℕ → List ℕ → List Checked
 read_checks file lent = file_check file ∷ short (length lent) (6 * count_of file) ∷ []
 
-unfoldable pub read_call : List ℕ → List ℕ → Returned Written
+unfoldable pub read_call : List ℕ → List ℕ → Returned (Result Written Refusal)
 read_call file lent = writing (first (read_checks file lent)) (cell_bytes (cells_of file)) (count_of file) (finish_of file) lent
 
 -- Runs on a netlist --------------------------------------------------------------------------------------------------------------------
@@ -127,8 +124,8 @@ shows F file s n =
 
 -- a run that leaves state s after n instants, unless a check refuses it
 unfoldable pub running : Format → Checked → List ℕ → List ℕ → ℕ → List ℕ → Returned Answer
-running F Accepted file s n lent = record { answer = shows F file s n; lent = s }
-running F (Checked.Refused r) file s n lent = record { answer = refused_answer r; lent = lent }
+running F (Ok _) file s n lent = record { answer = shows F file s n; lent = s }
+running F (Err r) file s n lent = record { answer = refused_answer r; lent = lent }
 
 -- "27: ... any [pulse length] above 1 with a compact state, after 12"
 unfoldable pub is_too_long : Format → ℕ → Bool
@@ -159,8 +156,8 @@ continue_checks F file n lent =
 -- how it goes on, unless one of these refuses it: 26, "alone among the refusals, and in departure from demand 1, ... changes lent memory: the state is
 -- left at the last good instant"
 unfoldable pub going_on : Format → Checked → List ℕ → Course → List ℕ → Returned Answer
-going_on F Accepted file c lent = running F c.check file c.state c.count c.state
-going_on F (Checked.Refused r) file c lent = record { answer = refused_answer r; lent = lent }
+going_on F (Ok _) file c lent = running F c.check file c.state c.count c.state
+going_on F (Err r) file c lent = record { answer = refused_answer r; lent = lent }
 
 unfoldable pub continue_call : Format → List ℕ → ℕ → List ℕ → Returned Answer
 continue_call F file n lent = going_on F (first (continue_checks F file n lent)) file (continued F (net_of file) (finish_of file) n lent) lent
@@ -244,8 +241,8 @@ reference_answer n still = record { outcome = Open; instant = n; count = n + 1; 
 
 -- an answer, unless a check refuses it
 unfoldable pub answering : Checked → Answer → Answer
-answering Accepted a = a
-answering (Checked.Refused r) a = refused_answer r
+answering (Ok _) a = a
+answering (Err r) a = refused_answer r
 
 -- a reference run: 27, 19 to 21, 1 to 8, 22, 24 and 25, 13, 14
 abbrev pub reference_checks : Options → List ℕ → List ℕ → ℕ → List Checked

@@ -1,17 +1,13 @@
 -- The paper's cases 1 to 12, but for the two runs that stay open, and rows of our own on arrays and on a call: rows of one table. The rows by the rules
 -- alone are proved here, by computation; that every row holds on the circuit too is `cases-hold` in theory/Promises/Cases, through the theorem
 -- that full run and rules agree, because a state of forty bytes for each cell is too long to be computed here. Assumes nothing.
-use Rattle.std.specs.Prelude.{◌≡◌, refl, List, [], ◌∷◌, ◌++◌, map, ℕ, zero, suc, ◌+◌, ◌*◌, ◌/◌, ◌%◌, ◌≤◌, length, take, replicate}
+use Rattle.std.specs.Prelude.{◌≡◌, refl, List, [], ◌∷◌, ◌++◌, map, ℕ, zero, suc, ◌+◌, ◌*◌, ◌/◌, ◌%◌, ◌≤◌, length, take, replicate, Err}
 use Prim.Native.String.{String}
-use Rattle.model.specs.declared.Checked.{Checked}
-use Rattle.model.specs.declared.Checked.TheVariants.{Accepted}
 use Rattle.model.specs.declared.Outcome.{Outcome}
 use Rattle.model.specs.declared.Outcome.TheVariants.{Ended}
-use Rattle.model.specs.declared.Written.{Written}
-use Rattle.model.specs.declared.Written.TheVariants.{Done}
 use Rattle.model.specs.declared.Answer.{Answer}
 use Rattle.model.specs.Word.{bit, operate, element_word, get16, bytes16}
-use Rattle.model.specs.Refusals.{refuse, first_fault}
+use Rattle.model.specs.Refusals.{refuse, first_fault, Checked, Accepted, Done}
 use Rattle.model.specs.Program.{program_of, node_at, nodes_from, node_bytes, row_of, as_expr, as_stmt, expr_of, stmt_of, tree_of, grow, forest, trees_at, expr_at, stmt_at, preorder_e, preorder, time, built_in_times, gap, least, reads, writes, touches}
 use Rattle.model.specs.Procedures.{table, inline, inlined, meaning, reaches, reached}
 use Rattle.model.specs.ProgramChecks.{program_length_wrong, too_many_procedures, unused_set, absent, node_fault, children, reading, searched, in_roots, delay_fault, shared, shares, shared_fault, conflict, conflicts, conflict_fault, check_of}
@@ -132,7 +128,7 @@ OnCircuit (ends p v n t w) =
     (for_file for_state : List ℕ) → 6656 ≤ length for_file → 41480 ≤ length for_state
     → (run_program_call defaults p (start v) n for_file for_state).answer ≡ end_answer t w
 OnCircuit (refuses p k i) =
-    (lent : List ℕ) → compile_call defaults p lent ≡ record { answer = Written.Refused (record { number = k; place = i }); lent = lent }
+    (lent : List ℕ) → compile_call defaults p lent ≡ record { answer = Err (record { number = k; place = i }); lent = lent }
 OnCircuit (compiles p n f) =
     (lent : List ℕ) → 6656 ≤ length lent →
     let size = 512 * blocks_for n in

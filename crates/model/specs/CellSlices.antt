@@ -1,15 +1,13 @@
 -- Netlists that a caller holds as cells, and not as bytes: renumbering, the check, and the calls that write and read them.
 -- "First cells as six bytes each; then a thin lent-slice-of-cell-structs form for renumbering and the cell check."
 -- Assumes nothing: definitions.
-use Rattle.std.specs.Prelude.{Bool, true, false, ◌&&◌, List, [], ◌∷◌, ◌++◌, map, ℕ, ◌+◌, ◌*◌, ◌-◌, ◌%◌, leb, length, take, drop}
+use Rattle.std.specs.Prelude.{Bool, ◌&&◌, List, [], ◌∷◌, ◌++◌, map, ℕ, ◌+◌, ◌*◌, ◌-◌, ◌%◌, leb, length, take, drop, Result, Ok, Err}
 use Rattle.std.proofs.lemmas.List.Edits.{sets}
+use Rattle.model.specs.declared.Refusal.{Refusal}
 use Rattle.model.specs.declared.Cell.{Cell}
-use Rattle.model.specs.declared.Checked.{Checked}
-use Rattle.model.specs.declared.Checked.TheVariants.{Accepted}
 use Rattle.model.specs.declared.Written.{Written}
-use Rattle.model.specs.declared.Written.TheVariants.{Done}
 use Rattle.model.specs.Word.{pick}
-use Rattle.model.specs.Refusals.{refuse_if, first}
+use Rattle.model.specs.Refusals.{refuse_if, first, Checked, Done}
 use Rattle.model.specs.Circuit.{cell, cell_row, names}
 use Rattle.model.specs.NetlistFile.{cell_bytes, cells_at, in_list, file_of, file_check, cells_of, count_of, finish_of, net_check, count_wrong, pulse_wrong, blocks_for, cell_limit}
 use Rattle.model.specs.Calls.{Returned, short, writing}
@@ -66,18 +64,18 @@ abbrev pub write_cells_checks : ℕ → List Cell → ℕ → List ℕ → List 
 write_cells_checks w cs f lent =
     refuse_if (pulse_wrong w) 27 0 ∷ miscounted cs f ∷ net_check cs f ∷ short (length lent) (length (file_of w cs f)) ∷ []
 
-unfoldable pub write_cells_call : ℕ → List Cell → ℕ → List ℕ → Returned Written
+unfoldable pub write_cells_call : ℕ → List Cell → ℕ → List ℕ → Returned (Result Written Refusal)
 write_cells_call w cs f lent = writing (first (write_cells_checks w cs f lent)) (file_of w cs f) (length (file_of w cs f)) f lent
 
 -- an answer, and a lent list of cells at exit
 pub record ReturnedCells : Type 0 where
-  pub answer : Written
+  pub answer : Result Written Refusal
   pub lent : List Cell
 
 -- cells that are put into a lent list from place k on, unless a check refuses it
 unfoldable pub placing : Checked → ℕ → List Cell → ℕ → ℕ → List Cell → ReturnedCells
-placing Accepted k cs n f lent = record { answer = Done n f; lent = take k lent ++ (cs ++ drop (k + length cs) lent) }
-placing (Checked.Refused r) k cs n f lent = record { answer = Written.Refused r; lent = lent }
+placing (Ok _) k cs n f lent = record { answer = Done n f; lent = take k lent ++ (cs ++ drop (k + length cs) lent) }
+placing (Err r) k cs n f lent = record { answer = Err r; lent = lent }
 
 -- reading a netlist behind k cells that stand already: 9 to 12, 14. The finish is the file's own.
 abbrev pub read_cells_checks : List ℕ → ℕ → List Cell → List Checked

@@ -4,10 +4,8 @@
 use Rattle.std.specs.Prelude.{◌≡◌, List, [], ◌∷◌, map, ℕ, ◌<◌, ltb, length, take}
 use Rattle.model.specs.declared.Options.{Options}
 use Rattle.model.specs.declared.Format.TheVariants.{Full, Compact}
-use Rattle.model.specs.declared.Checked.TheVariants.{Accepted}
-use Rattle.model.specs.declared.Written.TheVariants.{Done}
 use Rattle.model.specs.declared.Answer.{Answer}
-use Rattle.model.specs.Refusals.{number_of}
+use Rattle.model.specs.Refusals.{number_of, Accepted, Done}
 use Rattle.model.specs.Circuit.{Netlist}
 use Rattle.model.specs.NetlistFile.{net_of}
 use Rattle.model.specs.State.{instant_of, flight_of, state_size, now_at, before_at, element_now}

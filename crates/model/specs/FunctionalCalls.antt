@@ -1,15 +1,14 @@
 -- The calls of functional circuits: compiling, and runs on their netlists. "a functional run's answer shows them": a functional run is a mode of its own, with
 -- the rule of the last sixteen cells after all other rules of refusal 12; in all else it is the run of model/Calls.
 -- Assumes nothing: definitions.
-use Rattle.std.specs.Prelude.{List, [], ◌∷◌, ◌++◌, ℕ, length}
+use Rattle.std.specs.Prelude.{List, [], ◌∷◌, ℕ, length, Result, Ok, Err}
+use Rattle.model.specs.declared.Refusal.{Refusal}
 use Rattle.model.specs.declared.Options.{Options}
-use Rattle.model.specs.declared.Checked.{Checked}
-use Rattle.model.specs.declared.Checked.TheVariants.{Accepted}
 use Rattle.model.specs.declared.Written.{Written}
 use Rattle.model.specs.declared.Answer.{Answer}
 use Rattle.model.specs.declared.Format.{Format}
 use Rattle.model.specs.declared.Format.TheVariants.{Full}
-use Rattle.model.specs.Refusals.{first}
+use Rattle.model.specs.Refusals.{first, Checked}
 use Rattle.model.specs.Program.{Stmt, program_of}
 use Rattle.model.specs.Procedures.{meaning}
 use Rattle.model.specs.ProgramChecks.{check_functional}
@@ -38,7 +37,7 @@ abbrev pub compile_functional_checks : Options → List ℕ → List ℕ → Lis
 compile_functional_checks options program lent =
     options.checked ∷ check_functional options program ∷ short (length lent) (length (functional_file program)) ∷ []
 
-unfoldable pub compile_functional_call : Options → List ℕ → List ℕ → Returned Written
+unfoldable pub compile_functional_call : Options → List ℕ → List ℕ → Returned (Result Written Refusal)
 compile_functional_call options program lent =
     let file = functional_file program in
     writing (first (compile_functional_checks options program lent)) file (length file) (finish_of (statement_of program)) lent
@@ -56,7 +55,7 @@ reference_functional_call options program words n =
 
 -- the answer of a run that was not refused, with the words of the last sixteen cells
 unfoldable pub retold : Format → List ℕ → Checked → Returned Answer → Returned Answer
-retold F file Accepted r =
+retold F file (Ok _) r =
     record {
       answer = record {
         outcome = r.answer.outcome;
@@ -66,15 +65,15 @@ retold F file Accepted r =
       };
       lent = r.lent;
     }
-retold F file (Checked.Refused q) r = r
+retold F file (Err q) r = r
 
 -- refusals 9 to 12, and then the rule of the last sixteen cells
 abbrev pub last_checks : List ℕ → List Checked
 last_checks file = file_check file ∷ last_check (cells_of file) ∷ []
 
 unfoldable pub in_mode : Format → List ℕ → Checked → List ℕ → Returned Answer → Returned Answer
-in_mode F file Accepted lent r = retold F file (verdict r.answer.outcome) r
-in_mode F file (Checked.Refused q) lent r = record { answer = refused_answer q; lent = lent }
+in_mode F file (Ok _) lent r = retold F file (verdict r.answer.outcome) r
+in_mode F file (Err q) lent r = record { answer = refused_answer q; lent = lent }
 
 abbrev pub functionally : Format → List ℕ → List ℕ → Returned Answer → Returned Answer
 functionally F file lent r = in_mode F file (first (last_checks file)) lent r

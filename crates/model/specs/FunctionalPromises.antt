@@ -3,14 +3,13 @@
 -- last sixteen cells show, by the equations of its netlist, and nothing here tells more of it.
 -- The proof is in crate theory, file Functional/FullRuns: functional-demand.
 -- Assumes nothing: definitions.
+use Rattle.model.specs.Refusals.{Accepted, Done}
 use Rattle.std.specs.Prelude.{◌≡◌, ◌↔◌, List, [], ◌∷◌, ◌++◌, map, ℕ, suc, ◌+◌, ◌≤◌, length, take}
 use Rattle.model.specs.declared.Options.{Options}
 use Rattle.model.specs.declared.Cell.{Cell}
 use Rattle.model.specs.declared.Format.{Format}
-use Rattle.model.specs.declared.Checked.TheVariants.{Accepted}
 use Rattle.model.specs.declared.Format.TheVariants.{Full}
 use Rattle.model.specs.declared.Outcome.TheVariants.{Ended, Open}
-use Rattle.model.specs.declared.Written.TheVariants.{Done}
 use Rattle.model.specs.declared.Answer.{Answer}
 use Rattle.model.specs.Word.{Bytes}
 use Rattle.model.specs.Program.{Stmt, time_in}

@@ -2,8 +2,8 @@
 -- with the ideal ones wherever the paper says, and so a slow run answers as a full run does. What it refuses is in model/RefusalPromises: `slowRuns`.
 -- The proof is in crate theory, file Promises/Gates: gates.
 -- Assumes nothing: definitions.
+use Rattle.model.specs.Refusals.{Accepted}
 use Rattle.std.specs.Prelude.{◌≡◌, Bool, true, ◌||◌, List, ℕ, ◌<◌, eqb, length}
-use Rattle.model.specs.declared.Checked.TheVariants.{Accepted}
 use Rattle.model.specs.Program.{Program, program_of, time_in}
 use Rattle.model.specs.Rules.{Store}
 use Rattle.model.specs.Circuit.{cell_at, Values, control, element, array_at, Obeys}

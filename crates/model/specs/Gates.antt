@@ -1,15 +1,13 @@
 -- Gates that take their time: the equations of a second run of a program's netlist, in which each operator cell shows the result of its inputs as
 -- they were its own time earlier; the values that it works out; and the full run by them.
 -- Assumes nothing: definitions.
-use Rattle.std.specs.Prelude.{◌≡◌, Bool, true, false, List, [], ◌∷◌, ◌++◌, ℕ, zero, suc, ◌+◌, ◌-◌, ◌*◌, ◌<◌, eqb, leb, ltb, length, get_or, replicate}
+use Rattle.std.specs.Prelude.{◌≡◌, Bool, true, false, List, [], ◌∷◌, ◌++◌, ℕ, zero, suc, ◌+◌, ◌-◌, ◌*◌, ◌<◌, eqb, leb, ltb, length, get_or, replicate, Ok, Err}
 use Rattle.model.specs.declared.Options.{Options}
-use Rattle.model.specs.declared.Checked.{Checked}
-use Rattle.model.specs.declared.Checked.TheVariants.{Accepted}
 use Rattle.model.specs.declared.Outcome.TheVariants.{Ended, Open}
 use Rattle.model.specs.declared.Answer.{Answer}
 use Rattle.model.specs.declared.Cell.{Cell}
 use Rattle.model.specs.Word.{pick, operate, index, bytes16}
-use Rattle.model.specs.Refusals.{first}
+use Rattle.model.specs.Refusals.{first, Checked}
 use Rattle.model.specs.Program.{Program, time_in}
 use Rattle.model.specs.ProgramChecks.{program_with, check_of}
 use Rattle.model.specs.Circuit.{cell_at, Sig, Values, Elements, level, element, memory_words, start_word, Shape, shape, equation, k_constant, k_complement, k_operator, k_start, k_ground, k_delay, k_or, k_when_true, k_when_false, k_merge, k_return, k_memory, k_gated, k_array, k_address, k_read, k_latch, k_unknown}
@@ -143,7 +141,7 @@ pub record ReturnedSlow : Type 0 where
   pub work : List ℕ
 
 unfoldable pub slow_running : Checked → Options → List ℕ → List ℕ → ℕ → List ℕ → List ℕ → ReturnedSlow
-slow_running Accepted options program words n for_values for_work =
+slow_running (Ok _) options program words n for_values for_work =
     let S = slow_program options program in
     let cells = length (netlist S) in
     let W = slowly (time_in options.times) S (word_at words) in
@@ -153,7 +151,7 @@ slow_running Accepted options program words n for_values for_work =
       values = overwrite (value_bytes (λ k. W k t) 0 cells) for_values;
       work = overwrite (replicate (slow_size cells) 0) for_work;
     }
-slow_running (Checked.Refused r) options program words n for_values for_work = record { answer = refused_answer r; values = for_values; work = for_work }
+slow_running (Err r) options program words n for_values for_work = record { answer = refused_answer r; values = for_values; work = for_work }
 
 unfoldable pub slow_run_call : Options → List ℕ → List ℕ → ℕ → List ℕ → List ℕ → ReturnedSlow
 slow_run_call options program words n for_values for_work =

@@ -3,11 +3,10 @@
 -- Assumes nothing: definitions.
 use Rattle.std.specs.Prelude.{◌≡◌, refl, Bool, true, false, ◌&&◌, ◌||◌, not, List, [], ◌∷◌, ◌++◌, ℕ, zero, suc, ◌+◌, ◌-◌, ◌*◌, ◌/◌, ◌%◌, eqb, leb, ltb, length, get_or, take, drop, replicate}
 use Rattle.model.specs.declared.Cell.{Cell}
-use Rattle.model.specs.declared.Checked.{Checked}
 use Rattle.model.specs.declared.kinds.Use.{Use}
 use Rattle.model.specs.declared.kinds.Use.TheVariants.{Unknown, Unused, Value, Positive, ControlBelow, ControlAny, WordBelow, WordAny, ArrayBelow}
 use Rattle.model.specs.Word.{pick, get16, bytes16}
-use Rattle.model.specs.Refusals.{refuse_if, first, first_fault, fault_if}
+use Rattle.model.specs.Refusals.{refuse_if, first, first_fault, fault_if, Checked}
 use Rattle.model.specs.Circuit.{cell, cell_at, Netlist, cell_row, control, memories, past_memories}
 
 -- Cells in bytes -----------------------------------------------------------------------------------------------------------------------

@@ -1,14 +1,12 @@
 -- What is promised of the programs hubrun and hubtext, as types: hubrun prints what the program's own rules say, hubtext writes what a text stands for.
 -- The proof is in crate theory, file Promises/Outputs: hubrun-prints, hubtext-writes.
 -- Assumes nothing: definitions.
-use Rattle.std.specs.Prelude.{◌≡◌, List, [], ◌∷◌, ◌++◌, ℕ, ◌<◌, ◌≤◌, length, take, drop, replicate}
+use Rattle.std.specs.Prelude.{◌≡◌, List, [], ◌∷◌, ◌++◌, ℕ, ◌<◌, ◌≤◌, length, take, drop, replicate, Err}
 use Rattle.model.specs.declared.Answer.{Answer}
-use Rattle.model.specs.declared.Checked.{Checked}
-use Rattle.model.specs.declared.Checked.TheVariants.{Accepted}
 use Rattle.model.specs.declared.Outcome.TheVariants.{Open}
 use Rattle.model.specs.declared.Refusal.{Refusal}
 use Rattle.model.specs.Word.{get32, Bytes}
-use Rattle.model.specs.Refusals.{first}
+use Rattle.model.specs.Refusals.{first, Checked, Accepted}
 use Rattle.model.specs.ProgramChecks.{check_of}
 use Rattle.model.specs.TimeTables.{defaults, given_check}
 use Rattle.model.specs.Calls.{verdict, refused_answer, over_budget, reference_call}
@@ -40,5 +38,5 @@ pub record HubtextWrites : Type 0 where
   -- the program's bytes
   pub bytes : (text : List ℕ) → text_refused text ≡ Accepted → hubtext_output text ≡ text_program text
   -- or the refusal
-  pub refusal : (text : List ℕ) (r : Refusal) → text_refused text ≡ Checked.Refused r
+  pub refusal : (text : List ℕ) (r : Refusal) → text_refused text ≡ Err r
       → hubtext_output text ≡ line (refused_word ∷ decimal r.number ∷ decimal r.place ∷ [])

@@ -2,11 +2,11 @@
 -- "Two to eight parts, compiled one by one under one table and without procedures, are joined from their programs and netlist files. The file is byte
 -- for byte that of the whole sequence, grouped to the right."
 -- Assumes nothing: definitions.
-use Rattle.std.specs.Prelude.{not, ◌&&◌, List, [], ◌∷◌, ◌++◌, ℕ, zero, suc, ◌+◌, eqb, leb, ltb, length, get_or, take, drop}
+use Rattle.std.specs.Prelude.{not, ◌&&◌, List, [], ◌∷◌, ◌++◌, ℕ, zero, suc, ◌+◌, eqb, leb, ltb, length, get_or, take, drop, Result}
+use Rattle.model.specs.declared.Refusal.{Refusal}
 use Rattle.model.specs.declared.Options.{Options}
-use Rattle.model.specs.declared.Checked.{Checked}
 use Rattle.model.specs.declared.Written.{Written}
-use Rattle.model.specs.Refusals.{refuse_if, first, first_fault, fault_if}
+use Rattle.model.specs.Refusals.{refuse_if, first, first_fault, fault_if, Checked}
 use Rattle.model.specs.Program.{node_count}
 use Rattle.model.specs.ProgramChecks.{program_with, check_of}
 use Rattle.model.specs.Numbering.{finish}
@@ -109,7 +109,7 @@ whole_file options ps = compiled_file (beside_whole options ps) (whole_program p
 abbrev pub join_checks : Options → List Part → List ℕ → List Checked
 join_checks options ps lent = part_checks options ps ++ (short (length lent) (length (whole_file options ps)) ∷ [])
 
-unfoldable pub join_call : Options → List Part → List ℕ → Returned Written
+unfoldable pub join_call : Options → List Part → List ℕ → Returned (Result Written Refusal)
 join_call options ps lent =
     let file = whole_file options ps in
     writing (first (join_checks options ps lent)) file (length file) (finish (program_with (beside_whole options ps) (whole_program ps))) lent

@@ -6,10 +6,8 @@ use Rattle.std.specs.Prelude.{◌≡◌, ◌↔◌, List, [], ◌∷◌, ◌++�
 use Rattle.model.specs.declared.Format.{Format}
 use Rattle.model.specs.declared.Format.TheVariants.{Full}
 use Rattle.model.specs.declared.Options.{Options}
-use Rattle.model.specs.declared.Checked.TheVariants.{Accepted}
-use Rattle.model.specs.declared.Written.TheVariants.{Done}
 use Rattle.model.specs.Word.{Bytes}
-use Rattle.model.specs.Refusals.{first}
+use Rattle.model.specs.Refusals.{first, Accepted, Done}
 use Rattle.model.specs.Program.{Code, ok, seq, Program, node_count, program_of}
 use Rattle.model.specs.Procedures.{meaning}
 use Rattle.model.specs.TimeTables.{Given, load}

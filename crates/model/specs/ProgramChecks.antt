@@ -3,10 +3,8 @@
 use Rattle.std.specs.Prelude.{Bool, true, false, ◌&&◌, ◌||◌, not, List, [], ◌∷◌, ◌++◌, ℕ, zero, suc, ◌+◌, ◌%◌, length, take, drop, replicate, ltb, leb, eqb}
 use Rattle.model.specs.declared.Node.{Node}
 use Rattle.model.specs.declared.Options.{Options}
-use Rattle.model.specs.declared.Checked.{Checked}
-use Rattle.model.specs.declared.Checked.TheVariants.{Accepted}
 use Rattle.model.specs.Word.{pick}
-use Rattle.model.specs.Refusals.{refuse, refuse_if, first, first_fault, fault_if}
+use Rattle.model.specs.Refusals.{refuse, refuse_if, first, first_fault, fault_if, Checked, Accepted}
 use Rattle.model.specs.Program.{Code, Stmt, ok, tick, assign, assign_elem, seq, par, ite, while, repeat, loop, exit, call, Program, node_at, node_count, nodes_at, row_of, stmt_at, program_of, roots, preorder_e, preorder, time_in, least, writes, touches}
 use Rattle.model.specs.Procedures.{inline, inlined, reaches, reached}
 

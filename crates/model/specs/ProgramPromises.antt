@@ -1,9 +1,9 @@
 -- What is promised of a program without its circuit, as a type: its tree is its nodes, the reference run tells the end that the rules give, and a
 -- full run on the circuit answers as the reference run does.
 -- Assumes nothing: definitions.
+use Rattle.model.specs.Refusals.{Accepted}
 use Rattle.std.specs.Prelude.{◌≡◌, ◌↔◌, List, ℕ, ◌+◌, ◌≤◌, replicate}
 use Rattle.model.specs.declared.Options.{Options}
-use Rattle.model.specs.declared.Checked.TheVariants.{Accepted}
 use Rattle.model.specs.declared.Outcome.TheVariants.{Ended, Open}
 use Rattle.model.specs.declared.Answer.{Answer}
 use Rattle.model.specs.Program.{nodes_at, roots, preorders}

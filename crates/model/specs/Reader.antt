@@ -1,7 +1,7 @@
 -- The reader of a text: one pass over its tokens, with a stack of what is still open, that makes the program's nodes as it goes.
 -- It is how the calls find a reading; what a reading is, model/Text says, and model/TextPromises states that the two agree.
 -- Assumes nothing: definitions.
-use Rattle.std.specs.Prelude.{Bool, true, false, ◌&&◌, ◌||◌, List, [], ◌∷◌, ◌++◌, ℕ, suc, ◌+◌, ◌*◌, eqb, ltb, leb, length, get_or, take, drop, set}
+use Rattle.std.specs.Prelude.{Bool, true, false, ◌&&◌, ◌||◌, List, [], ◌∷◌, ◌++◌, ℕ, ◌+◌, ◌*◌, eqb, ltb, leb, length, get_or, take, drop, set}
 use Rattle.model.specs.declared.Node.{Node}
 use Rattle.model.specs.declared.texts.Token.{Token}
 use Rattle.model.specs.declared.texts.Mode.{Mode}

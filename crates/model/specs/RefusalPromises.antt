@@ -5,9 +5,7 @@ use Rattle.std.specs.Prelude.{◌≡◌, ◌⊎◌, Bool, true, false, ◌||◌,
 use Rattle.model.specs.declared.Cell.{Cell}
 use Rattle.model.specs.declared.Format.{Format}
 use Rattle.model.specs.declared.Format.TheVariants.{Full, Compact}
-use Rattle.model.specs.declared.Checked.{Checked}
-use Rattle.model.specs.declared.Checked.TheVariants.{Accepted}
-use Rattle.model.specs.Refusals.{number_of, place_of, first_fault}
+use Rattle.model.specs.Refusals.{number_of, place_of, first_fault, Checked, Accepted}
 use Rattle.model.specs.Program.{time_in}
 use Rattle.model.specs.ProgramChecks.{program_checks}
 use Rattle.model.specs.Circuit.{Netlist, high}

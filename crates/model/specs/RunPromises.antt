@@ -1,15 +1,14 @@
 -- The user's third demand as a type: one statement about a beginning and a whole list of continuings and starts.
 -- The proof is in crate theory, file Promises/Demands: demand3.
 -- Assumes nothing: definitions.
+use Rattle.model.specs.Refusals.{Accepted, Done}
 use Rattle.std.specs.Prelude.{◌≡◌, ◌↔◌, Bool, true, false, ◌&&◌, ◌||◌, List, [], ◌∷◌, ◌++◌, map, ℕ, suc, ◌+◌, ◌-◌, ◌≤◌, ◌<◌, eqb, ltb, take, drop}
 use Rattle.model.specs.declared.Cell.{Cell}
 use Rattle.model.specs.declared.Format.{Format}
 use Rattle.model.specs.declared.Format.TheVariants.{Full}
 use Rattle.model.specs.declared.Options.{Options}
-use Rattle.model.specs.declared.Checked.TheVariants.{Accepted}
 use Rattle.model.specs.declared.Outcome.{Outcome}
 use Rattle.model.specs.declared.Outcome.TheVariants.{Ended}
-use Rattle.model.specs.declared.Written.TheVariants.{Done}
 use Rattle.model.specs.declared.Answer.{Answer}
 use Rattle.model.specs.Word.{element_word}
 use Rattle.model.specs.Program.{Stmt, gap}

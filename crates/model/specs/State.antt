@@ -1,14 +1,12 @@
 -- Running: the bytes of a state, full or compact, beginning and continuing. The two formats differ in what a line keeps: `cellSize`, `lineBit`,
 -- `takenIn`, `remainingByte`, `crowding` and `lineSound` tell them apart, and nothing else does.
 -- Assumes nothing: definitions.
-use Rattle.std.specs.Prelude.{Bool, true, false, not, ◌&&◌, ◌||◌, List, [], ◌∷◌, ◌++◌, ℕ, zero, suc, ◌+◌, ◌-◌, ◌*◌, ◌/◌, ◌%◌, ◌^◌, length, get_or, set, take, drop, replicate, eqb, leb, ltb}
+use Rattle.std.specs.Prelude.{Bool, true, false, not, ◌&&◌, ◌||◌, List, [], ◌∷◌, ◌++◌, ℕ, zero, suc, ◌+◌, ◌-◌, ◌*◌, ◌/◌, ◌%◌, ◌^◌, length, get_or, set, take, drop, replicate, eqb, leb, ltb, Ok, Err}
 use Rattle.model.specs.declared.Cell.{Cell}
 use Rattle.model.specs.declared.Merge.{Merge}
 use Rattle.model.specs.declared.Format.{Format}
 use Rattle.model.specs.declared.Format.TheVariants.{Full, Compact}
-use Rattle.model.specs.declared.Checked.{Checked}
-use Rattle.model.specs.declared.Checked.TheVariants.{Accepted, Refused}
-use Rattle.model.specs.Refusals.{first_fault, fault_if}
+use Rattle.model.specs.Refusals.{first_fault, fault_if, Checked, Accepted}
 use Rattle.model.specs.Word.{pick, bit, is_zero, operate, element_of, get16, put16, get32, put32, bytes16}
 use Rattle.model.specs.Circuit.{cell_at, Netlist, control, high, remaining_step, merge_step, return_step, merges, memory_words, start_word, Shape, shape, k_constant, k_complement, k_operator, k_start, k_ground, k_delay, k_or, k_when_true, k_when_false, k_merge, k_return, k_memory, k_gated, k_array, k_address, k_read, k_latch, k_unknown}
 use Rattle.model.specs.NetlistFile.{all_zero}
@@ -264,8 +262,8 @@ module _ (F : Format) where
   continued net f (suc n) s =
       let t = step_state net false s in
       elim (crowding net s t) [
-        | Accepted ↦ elim (high (now_at t f)) [ true ↦ course Accepted t 1 | false ↦ longer (continued net f n t) ]
-        | Refused r ↦ course (Refused r) s 0
+        | Ok _ ↦ elim (high (now_at t f)) [ true ↦ course Accepted t 1 | false ↦ longer (continued net f n t) ]
+        | Err r ↦ course (Err r) s 0
       ]
 
   -- "the sixteen words": those that the memories show, of the cells that stand from k on

@@ -1,8 +1,8 @@
 -- What is promised of tables of operator times, as a type: a file of bytes loads exactly if it is the file of times in range, and its times are those.
 -- "Clubs buy gate parts of different speeds. A one-block file gives the times".
 -- Assumes nothing: definitions.
+use Rattle.model.specs.Refusals.{Accepted}
 use Rattle.std.specs.Prelude.{◌≡◌, List, ◌∷◌, ◌++◌, ℕ, ◌≤◌, replicate}
-use Rattle.model.specs.declared.Checked.TheVariants.{Accepted}
 use Rattle.model.specs.NetlistFile.{block_with}
 use Rattle.model.specs.TimeTables.{given, beside, load}
 use Rattle.model.specs.Calls.{listed}

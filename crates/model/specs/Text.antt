@@ -4,11 +4,9 @@
 use Rattle.std.specs.Prelude.{Bool, true, false, ◌&&◌, ◌||◌, not, List, [], ◌∷◌, ◌++◌, map, ℕ, zero, suc, ◌+◌, ◌-◌, ◌*◌, ◌<◌, ◌≤◌, eqb, leb, length, get_or, take, drop}
 use Prim.Native.Char.{code}
 use Rattle.model.specs.declared.texts.Token.{Token}
-use Rattle.model.specs.declared.Checked.{Checked}
-use Rattle.model.specs.declared.Checked.TheVariants.{Accepted}
 use Rattle.model.specs.Word.{pick}
 use Rattle.model.specs.Ascii.{ascii}
-use Rattle.model.specs.Refusals.{refuse}
+use Rattle.model.specs.Refusals.{refuse, Checked, Accepted}
 use Rattle.model.specs.Program.{Expr, const, var, compl, op, Code, ok, tick, assign, seq, par, ite, while, repeat}
 
 -- Tokens -------------------------------------------------------------------------------------------------------------------------------

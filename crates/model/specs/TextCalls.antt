@@ -1,12 +1,11 @@
 -- The public calls that take a program as text: from the lists that are lent, as they are at entry, to the answer and to the lists at exit.
 -- "17 over the whole text first"; 17 and 18 come before 1, and 19 to 21, of the table of operator times, "before 17"; 27, of the pulse length, before 19.
 -- Assumes nothing: definitions.
-use Rattle.std.specs.Prelude.{List, [], ◌∷◌, ◌++◌, ℕ, ltb, length}
+use Rattle.std.specs.Prelude.{List, [], ◌∷◌, ◌++◌, ℕ, ltb, length, Result}
+use Rattle.model.specs.declared.Refusal.{Refusal}
 use Rattle.model.specs.declared.Options.{Options}
-use Rattle.model.specs.declared.Checked.{Checked}
-use Rattle.model.specs.declared.Checked.TheVariants.{Accepted}
 use Rattle.model.specs.declared.Written.{Written}
-use Rattle.model.specs.Refusals.{refuse, refuse_if, first}
+use Rattle.model.specs.Refusals.{refuse, refuse_if, first, Checked, Accepted}
 use Rattle.model.specs.Program.{node_bytes}
 use Rattle.model.specs.ProgramChecks.{program_with, check_of}
 use Rattle.model.specs.Numbering.{finish}
@@ -42,14 +41,14 @@ abbrev pub read_text_checks : Options → List ℕ → List ℕ → List Checked
 read_text_checks options text lent =
     given_check options ∷ text_checks text ++ (check_of options (text_program text) ∷ short (length lent) (length (text_program text)) ∷ [])
 
-unfoldable pub read_text_call : Options → List ℕ → List ℕ → Returned Written
+unfoldable pub read_text_call : Options → List ℕ → List ℕ → Returned (Result Written Refusal)
 read_text_call options text lent = writing (first (read_text_checks options text lent)) (text_program text) (length (text_program text)) 0 lent
 
 -- text to netlist: 27, 19 to 21, 17, 18, 1 to 8, 22, 24 and 25, 14
 abbrev pub compile_text_checks : Options → List ℕ → List ℕ → List Checked
 compile_text_checks options text lent = given_check options ∷ text_checks text ++ netlist_checks options (text_program text) lent
 
-unfoldable pub compile_text_call : Options → List ℕ → List ℕ → Returned Written
+unfoldable pub compile_text_call : Options → List ℕ → List ℕ → Returned (Result Written Refusal)
 compile_text_call options text lent =
     let program = text_program text in
     let file = compiled_file options program in

@@ -5,10 +5,8 @@ use Rattle.std.specs.Prelude.{◌≡◌, true, List, [], ◌∷◌, ℕ, zero, s
 use Rattle.model.specs.declared.Options.{Options}
 use Rattle.model.specs.declared.Node.{Node}
 use Rattle.model.specs.declared.texts.Token.{Token}
-use Rattle.model.specs.declared.Checked.TheVariants.{Accepted}
-use Rattle.model.specs.declared.Written.TheVariants.{Done}
-use Rattle.model.specs.Refusals.{first}
-use Rattle.model.specs.Program.{Code, alone, preorder, node_bytes}
+use Rattle.model.specs.Refusals.{first, Accepted, Done}
+use Rattle.model.specs.Program.{Code, preorder, node_bytes}
 use Rattle.model.specs.ProgramChecks.{program_with}
 use Rattle.model.specs.Text.{value_from, is_number, is_name, Lexeme, words_of, tokens, Means, BreaksAt}
 use Rattle.model.specs.Reader.{good, bad}

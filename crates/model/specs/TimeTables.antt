@@ -4,10 +4,8 @@
 -- Assumes nothing: definitions.
 use Rattle.std.specs.Prelude.{Bool, true, false, not, ◌&&◌, ◌||◌, List, [], ◌∷◌, ℕ, ◌%◌, eqb, leb, ltb, length, get_or}
 use Rattle.model.specs.declared.Options.{Options}
-use Rattle.model.specs.declared.Checked.{Checked}
-use Rattle.model.specs.declared.Checked.TheVariants.{Accepted}
 use Rattle.model.specs.Word.{pick}
-use Rattle.model.specs.Refusals.{refuse_if, first, first_fault, fault_if}
+use Rattle.model.specs.Refusals.{refuse_if, first, first_fault, fault_if, Checked, Accepted}
 use Rattle.model.specs.Program.{built_in_times}
 use Rattle.model.specs.NetlistFile.{word_sum, pulse_wrong}
 

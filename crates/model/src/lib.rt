@@ -2,8 +2,9 @@
 // Numbers and places are those of paper 01, "From the input" and "From the state", and of paper 02.
 #![tactic(auto)]
 
-ghost use Rattle.std.specs.Prelude.{◌≡◌};
+ghost use Rattle.std.specs.Prelude.{◌≡◌, Err};
 ghost use Rattle.model.specs.Circuit.{merge_step, return_step};
+ghost use Rattle.model.specs.Calls.{refused_answer};
 
 pub mod kinds; // rows of the table of kinds, for the check of a program
 pub mod sizes; // sizes and limits, for code
@@ -16,18 +17,21 @@ pub struct Refusal {
     pub place: usize,
 }
 
-// The answer of a check.
-#[derive(Clone, Copy)]
-pub enum Checked {
-    Accepted,
-    Refused(Refusal),
+// The answer of a check: nothing, or the refusal.
+pub type Checked = Result<(), Refusal>;
+
+// A refusal, of any call.
+pub fn refuse<A>(number: u8, place: usize) -> Result<A, Refusal>
+    ensures { result ≡ Err (record { number = number; place = place }) }
+{
+    Err(Refusal { number, place })
 }
 
-// The answer of a call that writes: how many bytes of a file, or cells of a list, it wrote, and the finish cell.
+// What a call wrote: how many bytes of a file, or cells of a list, and the finish cell.
 #[derive(Clone, Copy)]
-pub enum Written {
-    Done { count: usize, finish: u16 },
-    Refused(Refusal),
+pub struct Written {
+    pub count: usize,
+    pub finish: u16,
 }
 
 // How a run stands: the finish wire is high, or it is not, or the call was refused.
@@ -45,6 +49,20 @@ pub struct Answer {
     pub instant: u32,
     pub count: u32,
     pub words: [u16; 16],
+}
+
+impl Answer {
+    // That of a refused call.
+    pub fn refused(refusal: Refusal) -> Answer
+        ensures { result ≡ refused_answer refusal }
+    {
+        Answer {
+            outcome: Outcome::Refused(refusal),
+            instant: 0,
+            count: 0,
+            words: [0; 16],
+        }
+    }
 }
 
 // A node of a program, four bytes.
@@ -67,7 +85,7 @@ pub struct Options {
 
 // A cell of a netlist, six bytes; callers in other languages lend slices of them.
 #[repr(C)]
-#[derive(Clone, Copy)]
+#[derive(Clone, Copy, PartialEq, Eq)]
 pub struct Cell {
     pub kind: u8,
     pub delay: u8,

@@ -1,12 +1,12 @@
 -- Cells in bytes: where they stand, how lists of them are taken apart, and their bytes and words. Assumes nothing.
-use Rattle.std.proofs.Common.{◌≡◌, ℕ, zero, suc, ◌+◌, ◌-◌, ◌*◌, ◌%◌, ◌<◌, ◌≤◌, List, [], ◌∷◌, ◌++◌, length, get_or, drop, set, refl, ap, arith}
+use Rattle.std.proofs.Common.{◌≡◌, ℕ, zero, suc, ◌+◌, ◌-◌, ◌<◌, ◌≤◌, List, [], ◌∷◌, ◌++◌, length, get_or, drop, set, refl, ap, arith}
 use native.Mathlib.Numerals.{towards_suc}
 use lib.ListN.{get_or-eq_default}
 use lib.Seq.{sets}
 use Rattle.model.specs.declared.Cell.{Cell}
 use Rattle.model.specs.Word.{bytes16, put16}
 use Rattle.model.specs.Circuit.{cell_at, no_cell}
-use Rattle.model.specs.NetlistFile.{cell_bytes, cell_from, cells_at, sum_with}
+use Rattle.model.specs.NetlistFile.{cell_bytes, cell_from, cells_at}
 use Rattle.laws.specs.NetlistFile.CellBytes.{bytes-length, bytes-append}
 use Rattle.netlist.specs.declared.cells.Layout.{Layout}
 use Rattle.netlist.specs.declared.cells.Layout.TheVariants.{InList, InFile}
@@ -68,12 +68,6 @@ pub cell-put : (d : List ℕ) (i : ℕ) (c : Cell) {d₁ d₂ : List ℕ} → d�
     → d₂ ≡ put16 d₁ (i + 4) c.b → d₂ ≡ sets d i (cell_bytes (c ∷ []))
 unfolding cell_bytes bytes16 put16
 cell-put d i c e f = rw (f, e) (simp towards_suc)
-
--- its three words, added one by one
-pub cell-added : (c : Cell) (sum : ℕ) {x y z : ℕ} → x ≡ (sum + (c.kind + 256 * c.delay)) % 65536 → y ≡ (x + c.a) % 65536
-    → z ≡ (y + c.b) % 65536 → z ≡ sum_with sum c
-unfolding sum_with
-cell-added c sum e f g = omega arith
 
 -- Cells put in one after another: what is still to be put in --------------------------------------------------------------------------
 

@@ -1,13 +1,10 @@
 -- The calls that write and that read, outcome by outcome: the answer, and the lent list afterwards. Assumes nothing.
-use Rattle.std.proofs.Common.{◌≡◌, ℕ, ◌*◌, ◌/◌, ◌%◌, ◌<◌, ◌≤◌, Bool, true, false, ◌||◌, ltb, List, [], ◌∷◌, length, sym, refl, ap, ◌∙◌, arith, le-ltb, lt-ltb}
+use Rattle.std.proofs.Common.{◌≡◌, ℕ, ◌*◌, ◌/◌, ◌%◌, ◌<◌, ◌≤◌, Bool, true, false, ◌||◌, ltb, List, [], ◌∷◌, length, sym, refl, ap, ◌∙◌, arith, le-ltb, lt-ltb, Result, Err}
 use lib.Seq.{sets}
 use Rattle.model.specs.declared.Cell.{Cell}
 use Rattle.model.specs.declared.Refusal.{Refusal}
-use Rattle.model.specs.declared.Checked.{Checked}
-use Rattle.model.specs.declared.Checked.TheVariants.{Accepted}
 use Rattle.model.specs.declared.Written.{Written}
-use Rattle.model.specs.declared.Written.TheVariants.{Done}
-use Rattle.model.specs.Refusals.{refuse_if, first}
+use Rattle.model.specs.Refusals.{refuse_if, first, Accepted, Done}
 use Rattle.model.specs.NetlistFile.{pulse_wrong, cell_bytes, cells_at, in_list, in_file, file_of, blocks_for, count_of, finish_of, cells_of, count_wrong, net_check, file_check}
 use Rattle.model.specs.Calls.{Returned, short, writing, cells_in, write_call, read_call}
 use Rattle.laws.specs.Refusals.Laws.{first_one}
@@ -21,16 +18,16 @@ use Rattle.laws.specs.NetlistFile.Files.{file-length}
 use Rattle.netlist.proofs.FileChecks.{neither, counted}
 
 -- what a call answers, and what it leaves in the lent list
-abbrev pub Tells : Written → List ℕ → Returned Written → Type 0
+abbrev pub Tells : Result Written Refusal → List ℕ → Returned (Result Written Refusal) → Type 0
 Tells answer lent told = (answer ≡ told.answer) × (lent ≡ told.lent)
 
-abbrev pub refused : ℕ → Written
-refused number = Written.Refused (record { number = number; place = 0 })
+abbrev pub refused : ℕ → Result Written Refusal
+refused number = Err (record { number = number; place = 0 })
 
 -- Reading ------------------------------------------------------------------------------------------------------------------------------
 
 module _ (file lent : List ℕ) where
-  pub read-refused : {r : Refusal} → file_check file ≡ Checked.Refused r → Tells (Written.Refused r) lent (read_call file lent)
+  pub read-refused : {r : Refusal} → file_check file ≡ Err r → Tells (Err r) lent (read_call file lent)
   unfolding read_call writing
   read-refused e = rw e (refl, refl)
 
@@ -93,7 +90,7 @@ module _ (w : ℕ) (cells : List ℕ) (f : ℕ) (lent : List ℕ) where
     pub list-room : Room InList cells n
     list-room = record { few = (counted (blocks_for n) n f (neither (ltb 0 (length cells % 6)) _ e).1).high; fits = omega arith }
 
-    pub cells-refused : {r : Refusal} → net_check (cells_in cells) f ≡ Checked.Refused r → Tells (Written.Refused r) lent (write_call w cells f lent)
+    pub cells-refused : {r : Refusal} → net_check (cells_in cells) f ≡ Err r → Tells (Err r) lent (write_call w cells f lent)
     unfolding writing
     cells-refused g = rw (write_as, p, e, g) (refl, refl)
 

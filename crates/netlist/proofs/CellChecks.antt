@@ -4,9 +4,8 @@ use mathlib.Core.Bool.{or-false}
 use borrow.Author.Tests.{eqb-false, lt-leb}
 use lib.ListN.{get_or-eq_default}
 use Rattle.model.specs.declared.Cell.{Cell}
-use Rattle.model.specs.declared.Checked.TheVariants.{Accepted}
 use Rattle.model.specs.Word.{pick, bit}
-use Rattle.model.specs.Refusals.{refuse, refuse_if, first, first_fault, fault_if}
+use Rattle.model.specs.Refusals.{refuse, refuse_if, first, first_fault, fault_if, Accepted}
 use Rattle.model.specs.Circuit.{cell_at, no_cell, control, memories, past_memories}
 use Rattle.model.specs.NetlistFile.{keeps, placed, array_placed, cell_fault, net_check}
 use Rattle.laws.specs.Refusals.Laws.{by_bool, by_le}

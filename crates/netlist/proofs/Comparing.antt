@@ -1,7 +1,7 @@
 -- Files and lists of cells that are compared: how a comparison goes on, and that an accepted file is that of its cells and no other. Assumes nothing.
+use Rattle.model.specs.Refusals.{Accepted}
 use Rattle.std.proofs.Common.{◌≡◌, ℕ, ◌+◌, ◌-◌, ◌<◌, ◌≤◌, Bool, true, false, not, ◌&&◌, ◌||◌, eqb, List, [], ◌∷◌, length, sym, refl, ap, ◌∙◌, ap₂, true≢false, arith, eq-eqb, eqb-true}
 use Rattle.model.specs.declared.Cell.{Cell}
-use Rattle.model.specs.declared.Checked.TheVariants.{Accepted}
 use Rattle.model.specs.Word.{Bytes}
 use Rattle.model.specs.Circuit.{cell}
 use Rattle.model.specs.Text.{same}

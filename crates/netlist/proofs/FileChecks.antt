@@ -1,10 +1,8 @@
 -- Refusals 9 to 12 of a file: how `fileCheck` comes out, test by test, and what a file that passes a test has. Assumes nothing.
-use Rattle.std.proofs.Common.{◌≡◌, ℕ, zero, suc, ◌*◌, ◌/◌, ◌%◌, ◌<◌, ◌≤◌, Bool, true, false, ◌&&◌, ◌||◌, List, [], ◌∷◌, length, get_or, refl, arith, ltb-false, ltb-true, eqb-true, leb-true}
+use Rattle.std.proofs.Common.{◌≡◌, ℕ, zero, suc, ◌*◌, ◌/◌, ◌%◌, ◌<◌, ◌≤◌, Bool, true, false, ◌&&◌, ◌||◌, List, [], ◌∷◌, length, get_or, refl, arith, ltb-false, ltb-true, eqb-true, leb-true, Ok, Err}
 use borrow.Author.Tests.{eqb-false, not-false}
 use Rattle.model.specs.declared.Refusal.{Refusal}
-use Rattle.model.specs.declared.Checked.{Checked}
-use Rattle.model.specs.declared.Checked.TheVariants.{Accepted, Refused}
-use Rattle.model.specs.Refusals.{refuse, refuse_if, first, first_fault}
+use Rattle.model.specs.Refusals.{refuse, refuse_if, first, first_fault, Checked, Accepted}
 use Rattle.model.specs.NetlistFile.{cell_limit, file_limit, pulse_of, pulse_wrong, cells_at, in_file, blocks_for, count_of, finish_of, cells_of, file_length_wrong, sum_fault, count_wrong, header_fault, net_check, file_checks, file_check}
 use Rattle.laws.specs.NetlistFile.Passed.{pulse-right}
 use Rattle.netlist.specs.declared.cells.Layout.TheVariants.{InFile}
@@ -12,8 +10,8 @@ use Rattle.netlist.specs.Offsets.{Room}
 
 -- the last of several checks
 alone : (c : Checked) → c ≡ first (c ∷ [])
-alone Accepted = refl
-alone (Refused r) = refl
+alone (Ok _) = refl
+alone (Err r) = refl
 
 -- Outcomes -----------------------------------------------------------------------------------------------------------------------------
 
@@ -26,7 +24,7 @@ module _ (s : List ℕ) where
   length-refused l = rw l refl
 
   module _ (l : file_length_wrong s ≡ false) where
-    pub sums-refused : {r : Refusal} → first_fault (sum_fault s) 0 m ≡ Refused r → Refused r ≡ file_check s
+    pub sums-refused : {r : Refusal} → first_fault (sum_fault s) 0 m ≡ Err r → Err r ≡ file_check s
     unfolding file_check
     sums-refused e = rw (l, e) refl
 
@@ -36,7 +34,7 @@ module _ (s : List ℕ) where
       count-refused e = rw (l, sums, ← en, ← ef, ← ew, e) refl
 
       module _ (right : (count_wrong m n f || pulse_wrong w) ≡ false) where
-        pub headers-refused : {r : Refusal} → first_fault (header_fault s) 0 m ≡ Refused r → Refused r ≡ file_check s
+        pub headers-refused : {r : Refusal} → first_fault (header_fault s) 0 m ≡ Err r → Err r ≡ file_check s
         unfolding file_check
         headers-refused e = rw (l, sums, ← en, ← ef, ← ew, right, e) refl
 
@@ -93,9 +91,9 @@ counted-room w c = record { few = c.high; fits = omega (arith, w.whole, c.blocks
 -- each check of a list that comes out accepted is passed
 pub passed : (cs : List Checked) → first cs ≡ Accepted → (i : ℕ) → get_or cs i Accepted ≡ Accepted
 passed [] e i = refl
-passed (Accepted ∷ cs) e zero = refl
-passed (Accepted ∷ cs) e (suc i) = passed cs e i
-passed (Refused r ∷ cs) e i = absurd (let z : ◌≡◌ {A = ℕ} 0 1 = cc in omega arith)
+passed (Ok _ ∷ cs) e zero = refl
+passed (Ok _ ∷ cs) e (suc i) = passed cs e i
+passed (Err r ∷ cs) e i = absurd (let z : ◌≡◌ {A = ℕ} 0 1 = cc in omega arith)
 
 unless : (x : Bool) (number place : ℕ) → refuse_if x number place ≡ Accepted → x ≡ false
 unless true number place e = absurd (let z : ◌≡◌ {A = ℕ} 0 1 = cc in omega arith)

@@ -1,8 +1,9 @@
 -- Blocks and files put in: a block from its parts and its running sum, and a file cell by cell. Assumes nothing.
-use Rattle.std.proofs.Common.{◌≡◌, ℕ, zero, suc, ◌+◌, ◌-◌, ◌*◌, ◌/◌, ◌%◌, ◌<◌, ◌≤◌, true, false, ◌||◌, eqb, List, [], ◌∷◌, ◌++◌, length, take, drop, set, replicate, sym, refl, ◌∙◌, append_assoc, append-nil, add-one, arith, length-drop, length-take, get_or-drop, take_all, take-suc, drop-drop, ne_eqb, eqb-true}
+use Rattle.std.proofs.Common.{◌≡◌, ℕ, zero, suc, ◌+◌, ◌-◌, ◌*◌, ◌/◌, ◌%◌, ◌<◌, ◌≤◌, true, false, ◌||◌, eqb, List, [], ◌∷◌, ◌++◌, length, take, drop, replicate, sym, refl, ◌∙◌, append_assoc, append-nil, add-one, arith, length-drop, length-take, get_or-drop, take_all, take-suc, drop-drop, ne_eqb, eqb-true}
 use native.Mathlib.Numerals.{towards_suc}
 use borrow.Author.Tests.{eqb-false}
-use lib.Seq.{sets}
+use lib.Seq.{sets, sets-eq}
+use borrow.Rule.Slice.PartMut.{put_mid}
 use Rattle.model.specs.declared.Cell.{Cell}
 use Rattle.model.specs.Word.{pick, bytes16, put16}
 use Rattle.model.specs.Circuit.{cell_at, no_cell}
@@ -18,13 +19,9 @@ use Rattle.netlist.proofs.FileChecks.{neither}
 
 -- Zeros --------------------------------------------------------------------------------------------------------------------------------
 
--- what is still to be cleared, with one byte less, and with none
-pub clear-more : (d : List ℕ) (i end : ℕ) → i < end
-    → sets d i (replicate (end - i) 0) ≡ sets (set d i 0) (i + 1) (replicate (end - (i + 1)) 0)
-clear-more d i end h = let e : end - i ≡ suc (end - (i + 1)) = omega arith in rw (e, add-one i) refl
-
-pub clear-done : (d : List ℕ) (i end : ℕ) → end ≤ i → sets d i (replicate (end - i) 0) ≡ d
-clear-done d i end h = let e : end - i ≡ 0 = omega arith in rw e refl
+-- a part of a list that is now s
+pub part-sets : (d s : List ℕ) (i n : ℕ) → length s ≡ n → i + n ≤ length d → put_mid i n d s ≡ sets d i s
+part-sets d s i n e h = rw (sets-eq s d i (rw e h), e, drop-drop n i d) (sym (append_assoc (take i d) s (drop (i + n) d)))
 
 -- Headers ------------------------------------------------------------------------------------------------------------------------------
 

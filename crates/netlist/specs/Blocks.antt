@@ -1,6 +1,7 @@
 -- A file written into a lent list, a block's header as a struct, and a file with the first cells put in. Assumes nothing: definitions.
-use Rattle.std.specs.Prelude.{◌≡◌, ℕ, ◌+◌, ◌*◌, ◌/◌, ◌%◌, ◌<◌, ◌≤◌, List, length, take, drop}
+use Rattle.std.specs.Prelude.{◌≡◌, ℕ, ◌+◌, ◌*◌, ◌/◌, ◌%◌, ◌<◌, ◌≤◌, List, length, take, drop, Result}
 use Rattle.std.proofs.lemmas.List.Edits.{sets}
+use Rattle.model.specs.declared.Refusal.{Refusal}
 use Rattle.model.specs.declared.Cell.{Cell}
 use Rattle.model.specs.declared.Written.{Written}
 use Rattle.model.specs.NetlistFile.{cell_bytes, head_bytes, running_sum, blocks, blocks_for, file_of}
@@ -8,7 +9,7 @@ use Rattle.model.specs.Calls.{Returned, short, writing}
 use Rattle.netlist.specs.declared.blocks.BlockHeader.{BlockHeader}
 
 -- the file of cells, written into a lent list: 14
-abbrev pub written_file : ℕ → List Cell → ℕ → List ℕ → Returned Written
+abbrev pub written_file : ℕ → List Cell → ℕ → List ℕ → Returned (Result Written Refusal)
 written_file w cs finish lent =
     let file = file_of w cs finish in
     writing (short (length lent) (length file)) file (length file) finish lent

@@ -11,8 +11,8 @@ ghost use Rattle.netlist.specs.Offsets.{Room};
 ghost use Rattle.netlist.specs.Blocks.{header_bytes, Filled};
 
 use crate::cells::Layout;
-use model::sizes::{BLOCK, BLOCK_CELLS, BLOCK_HEADER, BLOCK_LAST, CELL, MOST_CELLS};
-use model::{Cell, Checked, Refusal};
+use model::sizes::{BLOCK, BLOCK_CELLS, BLOCK_HEADER, CELL, MOST_CELLS};
+use model::{Cell, Checked, refuse};
 
 // The first three words of a block.
 #[derive(Clone, Copy)]
@@ -29,31 +29,26 @@ pub fn check_sums(s: &[u8], m: usize) -> Checked
     requires { 512 * m ≤ length s.now }
     ensures { result ≡ first_fault (sum_fault s.now) 0 m }
 {
-    let mut b: usize = 0;
-    while b < m {
+    for b in 0..m {
         if word::sum16(s, BLOCK * b, 256) != 0 {
-            return Checked::Refused(Refusal {
-                number: 10,
-                place: b,
-            });
+            return refuse(10, b);
         }
-        b += 1;
     }
-    Checked::Accepted
+    Ok(())
+}
+
+// How many blocks so many cells take.
+pub fn blocks_for(count: usize) -> usize
+    ensures { result ≡ blocks_for count }
+{
+    count.div_ceil(BLOCK_CELLS)
 }
 
 pub fn count_wrong(m: usize, count: usize, finish: usize) -> bool
     requires { count + 83 < 2 ^ 64 }
     ensures { result ≡ count_wrong m count finish }
 {
-    !((27 <= count)
-        & ((count <= MOST_CELLS) & ((m == (count + BLOCK_LAST) / BLOCK_CELLS) & (finish < count))))
-}
-
-fn wide(b: u8) -> u16
-    ensures { (result ≡ b) × (result ≤ 255) }
-{
-    b as u16
+    !((27 <= count) & ((count <= MOST_CELLS) & ((m == blocks_for(count)) & (finish < count))))
 }
 
 // The pulse length that a file tells, by the high byte of block 0's number.
@@ -61,7 +56,7 @@ pub fn pulse_of(s: &[u8]) -> u16
     requires { 1 < length s.now }
     ensures { result ≡ pulse_of s.now }
 {
-    wide(s[1]) + 1
+    u16::from(s[1]) + 1
 }
 
 pub fn pulse_wrong(pulse: u16) -> bool
@@ -83,12 +78,10 @@ fn zero_from(s: &[u8], b: usize, j: usize) -> bool
     requires { 512 * b + 512 ≤ length s.now }
     ensures { result ≡ all_zero (drop j (block_at s.now b)) }
 {
-    let mut k = j;
-    while k < BLOCK {
+    for k in j..BLOCK {
         if s[BLOCK * b + k] != 0 {
             return false;
         }
-        k += 1;
     }
     true
 }
@@ -112,69 +105,62 @@ pub fn check_headers(s: &[u8], m: usize, pulse: u16, count: usize, finish: usize
     requires { (512 * m ≤ length s.now) × (count ≤ cell_limit) × (m ≡ blocks_for count) × (count ≡ count_of s.now) × (finish ≡ finish_of s.now) × (pulse ≡ pulse_of s.now) × (pulse ≤ 256) }
     ensures { result ≡ first_fault (header_fault s.now) 0 m }
 {
-    let mut b: usize = 0;
-    while b < m {
+    for b in 0..m {
         if !is_headed(s, b, pulse, count, finish) {
-            return Checked::Refused(Refusal {
-                number: 11,
-                place: b,
-            });
+            return refuse(11, b);
         }
-        b += 1;
     }
-    Checked::Accepted
+    Ok(())
 }
 
 // Putting in -----------------------------------------------------------------------------------------------------------------------------
-
-// What a block's running sum begins with.
-pub fn header_sum(h: BlockHeader) -> u16
-    ensures { result ≡ running_sum h.number h.count h.finish [] }
-{
-    let two = std::num::wrapping_add_u16(h.number, h.count);
-    std::num::wrapping_add_u16(two, h.finish)
-}
-
-// Puts the header of the block at i in; the check comes from the running sum alone.
-pub fn put_header(d: &mut [u8], i: usize, h: BlockHeader, sum: u16)
-    requires { i + 8 ≤ length d.old }
-    ensures { d.new ≡ sets d.old i (header_bytes h ++ bytes16 (check_for sum)) }
-{
-    word::put16(d, i, h.number);
-    word::put16(d, i + 2, h.count);
-    word::put16(d, i + 4, h.finish);
-    word::put16(d, i + 6, std::num::wrapping_sub_u16(0, sum));
-}
 
 // Puts zeros in from i on, up to end.
 pub fn clear(d: &mut [u8], i: usize, end: usize)
     requires { end ≤ length d.old }
     ensures { d.new ≡ sets d.old i (replicate (end - i) 0) }
 {
-    let mut j = i;
-    while j < end {
-        d[j] = 0;
-        j += 1;
+    if i < end {
+        d[i..end].fill(0);
     }
 }
 
-// What the running sum is before cell j of a block.
-fn sum_before(h: BlockHeader, j: usize, sum: u16) -> u16
-    ensures { result ≡ pick (j == 0) (running_sum h.number h.count h.finish []) sum }
-{
-    if j == 0 {
-        return header_sum(h);
+impl BlockHeader {
+    // What a block's running sum begins with.
+    pub fn sum(self) -> u16
+        ensures { result ≡ running_sum self.number self.count self.finish [] }
+    {
+        self.number
+            .wrapping_add(self.count)
+            .wrapping_add(self.finish)
     }
-    sum
-}
 
-// Puts what the block at i has beside its n cells in: zeros after them, and the header.
-fn close_block(d: &mut [u8], i: usize, h: BlockHeader, n: usize, sum: u16)
-    requires { (i + 512 ≤ length d.old) × (n ≤ 84) }
-    ensures { d.new ≡ sets (sets d.old (i + 8 + 6 * n) (replicate (504 - 6 * n) 0)) i (header_bytes h ++ bytes16 (check_for sum)) }
-{
-    clear(d, i + BLOCK_HEADER + CELL * n, i + BLOCK);
-    put_header(d, i, h, sum);
+    // What the running sum is before cell j of a block.
+    fn sum_before(self, j: usize, sum: u16) -> u16
+        ensures { result ≡ pick (j == 0) (running_sum self.number self.count self.finish []) sum }
+    {
+        if j == 0 { self.sum() } else { sum }
+    }
+
+    // Puts the header of the block at i in; the check comes from the running sum alone.
+    pub fn put(self, d: &mut [u8], i: usize, sum: u16)
+        requires { i + 8 ≤ length d.old }
+        ensures { d.new ≡ sets d.old i (header_bytes self ++ bytes16 (check_for sum)) }
+    {
+        word::put16(d, i, self.number);
+        word::put16(d, i + 2, self.count);
+        word::put16(d, i + 4, self.finish);
+        word::put16(d, i + 6, sum.wrapping_neg());
+    }
+
+    // Puts what the block at i has beside its n cells in: zeros after them, and the header.
+    fn close(self, d: &mut [u8], i: usize, n: usize, sum: u16)
+        requires { (i + 512 ≤ length d.old) × (n ≤ 84) }
+        ensures { d.new ≡ sets (sets d.old (i + 8 + 6 * n) (replicate (504 - 6 * n) 0)) i (header_bytes self ++ bytes16 (check_for sum)) }
+    {
+        clear(d, i + BLOCK_HEADER + CELL * n, i + BLOCK);
+        self.put(d, i, sum);
+    }
 }
 
 // Puts cell k of n, which is c, into their file, whose blocks are numbered from first on, and with the last cell of a block what else the block has; answers the running sum.
@@ -189,11 +175,10 @@ pub fn put_next(d: &mut [u8], k: usize, n: usize, first: u16, finish: u16, c: Ce
         count: n as u16,
         finish,
     };
-    let before = sum_before(h, j, sum);
+    let before = h.sum_before(j, sum);
     let total = crate::cells::put_cell(d, BLOCK * b + BLOCK_HEADER + CELL * j, c, before);
     if (j == 83) | (k + 1 == n) {
-        close_block(d, BLOCK * b, h, j + 1, total);
-        return total;
+        h.close(d, BLOCK * b, j + 1, total);
     }
     total
 }
@@ -204,11 +189,9 @@ pub fn put_file(d: &mut [u8], cells: &[u8], n: usize, pulse: u16, finish: u16)
     ensures { d.new ≡ sets d.old 0 (file_of pulse (cells_at in_list cells.now 0 n) finish) }
 {
     let first = first_number(pulse);
-    let mut k: usize = 0;
-    let mut sum: u16 = 0;
-    while k < n {
+    let mut sum = 0;
+    for k in 0..n {
         let c = crate::cells::cell_at(cells, Layout::InList, k);
         sum = put_next(d, k, n, first, finish, c, sum);
-        k += 1;
     }
 }

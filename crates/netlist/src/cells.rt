@@ -2,7 +2,7 @@
 // Putting a cell in keeps its block's sum running: the contract tells the sum after it from the sum before. The block's check comes from that.
 ghost use Rattle.std.specs.Prelude.{◌≡◌, ◌+◌, ◌*◌, ◌<◌, ◌≤◌, [], ◌∷◌, length};
 ghost use Rattle.std.proofs.lemmas.List.Edits.{sets};
-ghost use Rattle.model.specs.NetlistFile.{cell_limit, file_limit, cell_bytes, cell_from, cells_at, sum_with};
+ghost use Rattle.model.specs.NetlistFile.{cell_limit, file_limit, cell_bytes, cell_from, cells_at, in_file, sum_with};
 ghost use Rattle.netlist.specs.Offsets.{offset, after, Room};
 
 use model::Cell;
@@ -33,9 +33,10 @@ pub fn next_offset(i: usize) -> usize
 {
     let next = i + CELL;
     if next % BLOCK == 0 {
-        return next + BLOCK_HEADER;
+        next + BLOCK_HEADER
+    } else {
+        next
     }
-    next
 }
 
 // The cell that begins at byte i.
@@ -43,11 +44,12 @@ pub fn cell_from(s: &[u8], i: usize) -> Cell
     requires { i + 6 ≤ length s.now }
     ensures { result ≡ cell_from s.now i }
 {
-    let kind = s[i];
-    let delay = s[i + 1];
-    let a = word::get16(s, i + 2);
-    let b = word::get16(s, i + 4);
-    Cell { kind, delay, a, b }
+    Cell {
+        kind: s[i],
+        delay: s[i + 1],
+        a: word::get16(s, i + 2),
+        b: word::get16(s, i + 4),
+    }
 }
 
 pub fn cell_at(s: &[u8], layout: Layout, k: usize) -> Cell
@@ -67,10 +69,8 @@ pub fn put_cell(d: &mut [u8], i: usize, c: Cell, sum: u16) -> u16
     d[i + 1] = c.delay;
     word::put16(d, i + 2, c.a);
     word::put16(d, i + 4, c.b);
-    let first = (c.kind as u16) + 256 * (c.delay as u16);
-    let with_first = std::num::wrapping_add_u16(sum, first);
-    let with_a = std::num::wrapping_add_u16(with_first, c.a);
-    std::num::wrapping_add_u16(with_a, c.b)
+    let first = u16::from_le_bytes([c.kind, c.delay]);
+    sum.wrapping_add(first).wrapping_add(c.a).wrapping_add(c.b)
 }
 
 // Puts n cells of s, from cell k on, in at i.
@@ -78,14 +78,8 @@ pub fn put_cells(d: &mut [u8], i: usize, s: &[u8], layout: Layout, k: usize, n: 
     requires { Room layout s.now (k + n) × (i + 6 * n ≤ length d.old) }
     ensures { d.new ≡ sets d.old i (cell_bytes (cells_at (offset layout) s.now k n)) }
 {
-    let mut to = i;
-    let mut from = k;
-    let mut left = n;
-    while 0 < left {
-        let c = cell_at(s, layout, from);
-        put_cell(d, to, c, 0);
-        to += 6;
-        from += 1;
-        left -= 1;
+    for j in 0..n {
+        let c = cell_at(s, layout, k + j);
+        put_cell(d, i + CELL * j, c, 0);
     }
 }

@@ -1,7 +1,7 @@
 // What a netlist file tells beside its cells, as one value: made once from the head of a file that is accepted, and passed on.
 // Its contract is an equation with model/NetlistFile, field by field (specs/Headers).
+ghost use Rattle.model.specs.Refusals.{Accepted};
 ghost use Rattle.std.specs.Prelude.{◌≡◌};
-ghost use Rattle.model.specs.declared.Checked.TheVariants.{Accepted};
 ghost use Rattle.model.specs.NetlistFile.{file_check};
 ghost use Rattle.netlist.specs.Headers.{header_of};
 

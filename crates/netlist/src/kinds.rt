@@ -47,8 +47,7 @@ pub fn cell_row(kind: u8) -> CellRow
 pub fn is_control(kind: u8) -> bool
     ensures { result ≡ control kind }
 {
-    let row = cell_row(kind);
-    row.control
+    cell_row(kind).control
 }
 
 // Whether a cell of this kind is one of an array's two.
@@ -77,14 +76,8 @@ pub fn names(u: Use) -> bool
     ensures { result ≡ names u }
 {
     match u {
-        Use::Unknown => false,
-        Use::Unused => false,
-        Use::Value => false,
-        Use::Positive => false,
-        Use::ControlBelow => true,
-        Use::ControlAny => true,
-        Use::WordBelow => true,
-        Use::WordAny => true,
-        Use::ArrayBelow => true,
+        Use::Unknown | Use::Unused | Use::Value | Use::Positive => false,
+        Use::ControlBelow | Use::ControlAny | Use::WordBelow | Use::WordAny | Use::ArrayBelow =>
+            true,
     }
 }

@@ -2,8 +2,8 @@
 // The calls that check, write and read have no requires, and their contracts are equations with model/NetlistFile and model/Calls.
 #![tactic(auto)]
 
-ghost use Rattle.std.specs.Prelude.{◌≡◌, ◌≤◌};
-ghost use Rattle.model.specs.declared.Checked.TheVariants.{Accepted};
+ghost use Rattle.model.specs.Refusals.{Accepted};
+ghost use Rattle.std.specs.Prelude.{◌≡◌, ◌≤◌, Err};
 ghost use Rattle.model.specs.NetlistFile.{file_check, cells_at, in_list, cells_of, last_check};
 ghost use Rattle.model.specs.Calls.{write_call, read_call};
 ghost use Rattle.netlist.specs.Offsets.{Room};
@@ -18,8 +18,8 @@ pub mod moves; // inputs that name cells, with new numbers
 pub mod same; // whether a file is that of a list of cells
 
 use cells::Layout;
-use model::sizes::{BLOCK, BLOCK_CELLS, BLOCK_LAST, FILE_MOST, MOST_CELLS};
-use model::{Checked, Refusal, Written};
+use model::sizes::{BLOCK, CELL, FILE_MOST, MOST_CELLS};
+use model::{Checked, Refusal, Written, refuse};
 
 // Refusals 9 to 12, in their order.
 pub fn check_file(file: &[u8]) -> Checked
@@ -27,29 +27,17 @@ pub fn check_file(file: &[u8]) -> Checked
 {
     let size = file.len();
     if (size == 0) | ((FILE_MOST < size) | (0 < size % BLOCK)) {
-        return Checked::Refused(Refusal {
-            number: 9,
-            place: 0,
-        });
+        return refuse(9, 0);
     }
     let m = size / BLOCK;
-    let sums = blocks::check_sums(file, m);
-    if let Checked::Refused(r) = sums {
-        return Checked::Refused(r);
-    }
+    blocks::check_sums(file, m)?;
     let count = word::get16(file, 2) as usize;
     let finish = word::get16(file, 4) as usize;
     let pulse = blocks::pulse_of(file);
     if blocks::count_wrong(m, count, finish) | blocks::pulse_wrong(pulse) {
-        return Checked::Refused(Refusal {
-            number: 11,
-            place: 0,
-        });
+        return refuse(11, 0);
     }
-    let headers = blocks::check_headers(file, m, pulse, count, finish);
-    if let Checked::Refused(r) = headers {
-        return Checked::Refused(r);
-    }
+    blocks::check_headers(file, m, pulse, count, finish)?;
     rules::check_cells(file, Layout::InFile, count, finish)
 }
 
@@ -58,77 +46,69 @@ pub fn check_last(file: &[u8]) -> Checked
     ensures { file_check file.now ≡ Accepted → result ≡ last_check (cells_of file.now) }
 {
     if file.len() < BLOCK {
-        return Checked::Accepted;
+        return Ok(());
     }
     let n = word::get16(file, 2) as usize;
-    if (MOST_CELLS < n) | (file.len() < BLOCK * ((n + BLOCK_LAST) / BLOCK_CELLS)) {
-        return Checked::Accepted;
+    if (MOST_CELLS < n) | (file.len() < BLOCK * blocks::blocks_for(n)) {
+        return Ok(());
     }
     rules::check_last(file, Layout::InFile, n)
 }
 
 // Writes n cells of a list, with their pulse length and finish, as a file: refusal 14.
-pub fn write_file(file: &mut [u8], cells: &[u8], n: usize, pulse: u16, finish: u16) -> Written
+pub fn write_file(
+    file: &mut [u8],
+    cells: &[u8],
+    n: usize,
+    pulse: u16,
+    finish: u16,
+) -> Result<Written, Refusal>
     requires { Room Layout.InList cells.now n × (pulse ≤ 256) }
     ensures answer { result ≡ (written_file pulse (cells_at in_list cells.now 0 n) finish file.old).answer }
     ensures lent { file.new ≡ (written_file pulse (cells_at in_list cells.now 0 n) finish file.old).lent }
 {
-    let count = BLOCK * ((n + BLOCK_LAST) / BLOCK_CELLS);
+    let count = BLOCK * blocks::blocks_for(n);
     if file.len() < count {
-        return Written::Refused(Refusal {
-            number: 14,
-            place: 0,
-        });
+        return refuse(14, 0);
     }
     blocks::put_file(file, cells, n, pulse, finish);
-    Written::Done { count, finish }
+    Ok(Written { count, finish })
 }
 
 // Writes a netlist of this pulse length, of six bytes for each cell, as a file: refusals 27, 11, 12, 14.
-pub fn write_netlist(pulse: u8, cells: &[u8], finish: u16, file: &mut [u8]) -> Written
+pub fn write_netlist(
+    pulse: u8,
+    cells: &[u8],
+    finish: u16,
+    file: &mut [u8],
+) -> Result<Written, Refusal>
     ensures answer { result ≡ (write_call pulse cells.now finish file.old).answer }
     ensures lent { file.new ≡ (write_call pulse cells.now finish file.old).lent }
 {
-    let length = pulse as u16;
+    let length = u16::from(pulse);
     if blocks::pulse_wrong(length) {
-        return Written::Refused(Refusal {
-            number: 27,
-            place: 0,
-        });
+        return refuse(27, 0);
     }
-    let n = cells.len() / 6;
-    let m = (n + BLOCK_LAST) / BLOCK_CELLS;
+    let n = cells.len() / CELL;
     let f = finish as usize;
-    if (0 < cells.len() % 6) | blocks::count_wrong(m, n, f) {
-        return Written::Refused(Refusal {
-            number: 11,
-            place: 0,
-        });
+    if (0 < cells.len() % CELL) | blocks::count_wrong(blocks::blocks_for(n), n, f) {
+        return refuse(11, 0);
     }
-    let checked = rules::check_cells(cells, Layout::InList, n, f);
-    if let Checked::Refused(r) = checked {
-        return Written::Refused(r);
-    }
+    rules::check_cells(cells, Layout::InList, n, f)?;
     write_file(file, cells, n, length, finish)
 }
 
 // Reads a netlist file into cells of six bytes each: refusals 9 to 12, 14.
-pub fn read_netlist(file: &[u8], cells: &mut [u8]) -> Written
+pub fn read_netlist(file: &[u8], cells: &mut [u8]) -> Result<Written, Refusal>
     ensures answer { result ≡ (read_call file.now cells.old).answer }
     ensures lent { cells.new ≡ (read_call file.now cells.old).lent }
 {
-    let checked = check_file(file);
-    if let Checked::Refused(r) = checked {
-        return Written::Refused(r);
-    }
+    check_file(file)?;
     let count = word::get16(file, 2) as usize;
     let finish = word::get16(file, 4);
-    if cells.len() < 6 * count {
-        return Written::Refused(Refusal {
-            number: 14,
-            place: 0,
-        });
+    if cells.len() < CELL * count {
+        return refuse(14, 0);
     }
     cells::put_cells(cells, 0, file, Layout::InFile, 0, count);
-    Written::Done { count, finish }
+    Ok(Written { count, finish })
 }

@@ -19,14 +19,9 @@ pub fn rewired(c: Cell, a: u16, b: u16) -> Cell
     ensures { (f : ℕ → ℕ) → (names (cell_row c.kind).a ≡ true → a ≡ f c.a) → (names (cell_row c.kind).b ≡ true → b ≡ f c.b) → result ≡ rewired f c }
 {
     let row = crate::kinds::cell_row(c.kind);
-    let use_a = row.a;
-    let use_b = row.b;
-    let first = input(crate::kinds::names(use_a), a, c.a);
-    let second = input(crate::kinds::names(use_b), b, c.b);
     Cell {
-        kind: c.kind,
-        delay: c.delay,
-        a: first,
-        b: second,
+        a: input(crate::kinds::names(row.a), a, c.a),
+        b: input(crate::kinds::names(row.b), b, c.b),
+        ..c
     }
 }

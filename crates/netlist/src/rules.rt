@@ -12,7 +12,7 @@ ghost use Rattle.netlist.specs.Scans.{Stands, Scanned};
 use crate::cells::Layout;
 use crate::kinds;
 use model::kinds::Use;
-use model::{Cell, Checked, Refusal};
+use model::{Cell, Checked, refuse};
 
 // The cells of the four arrays.
 const ARRAY_CELLS: usize = 8;
@@ -33,15 +33,16 @@ pub struct Scan {
 }
 
 // The kind of cell k of n, 0 past the last.
+// A list, its layout and its count stay parameters here and below: cells::cell_at, which other crates call, takes them so.
 fn kind_at(s: &[u8], layout: Layout, n: usize, k: usize) -> u8
     requires { Room layout s.now n }
     ensures { result ≡ (cell_at (cells_at (offset layout) s.now 0 n) k).kind }
 {
     if k < n {
-        let i = crate::cells::offset(layout, k);
-        return s[i];
+        s[crate::cells::offset(layout, k)]
+    } else {
+        0
     }
-    0
 }
 
 // Whether cell k may be c: cells 0, 1 and 2 are given.
@@ -71,17 +72,14 @@ fn stands(kind: u8, k: usize) -> bool
 fn arrays_placed(m: usize, k: usize, c: Cell) -> bool
     ensures { result ≡ array_placed m k c }
 {
-    if k < m {
-        return !kinds::of_array(c.kind);
+    match k.checked_sub(m) {
+        Some(j) if j < ARRAY_CELLS => if j % 2 == 0 {
+            (c.kind == 42) & (usize::from(c.delay) == j / 2)
+        } else {
+            c.kind == 43
+        },
+        _ => !kinds::of_array(c.kind),
     }
-    let j = k - m;
-    if ARRAY_CELLS <= j {
-        return !kinds::of_array(c.kind);
-    }
-    if j % 2 == 0 {
-        return (c.kind == 42) & ((c.delay as usize) == j / 2);
-    }
-    c.kind == 43
 }
 
 // Whether v, in cell k of n, is what its use asks for; `kind` is that of cell v, if v names a cell.
@@ -106,12 +104,9 @@ fn keeps_rule(n: usize, k: usize, c: Cell, a: u8, b: u8) -> bool
     ensures { (net : List Cell) → Inputs net n c a b → result ≡ keeps net k c }
 {
     let row = kinds::cell_row(c.kind);
-    let use_delay = row.delay;
-    let use_a = row.a;
-    let use_b = row.b;
-    let right_delay = keeps_use(use_delay, n, k, c.delay as usize, 0);
-    let right_a = keeps_use(use_a, n, k, c.a as usize, a);
-    let right_b = keeps_use(use_b, n, k, c.b as usize, b);
+    let right_delay = keeps_use(row.delay, n, k, c.delay as usize, 0);
+    let right_a = keeps_use(row.a, n, k, c.a as usize, a);
+    let right_b = keeps_use(row.b, n, k, c.b as usize, b);
     stands(c.kind, k) & (right_delay & (right_a & right_b))
 }
 
@@ -120,10 +115,7 @@ fn with_next(kept: usize, k: usize, right: bool) -> usize
     requires { k + 1 < 2 ^ 64 }
     ensures { result ≡ pick (kept == k && right) (k + 1) kept }
 {
-    if (kept == k) & right {
-        return k + 1;
-    }
-    kept
+    if (kept == k) & right { k + 1 } else { kept }
 }
 
 // Where the arrays' cells begin: behind the sixteenth memory, or, while there are fewer, behind cell k.
@@ -131,10 +123,7 @@ fn past_memories(memories: usize, k: usize, before: usize) -> usize
     requires { k + 1 < 2 ^ 64 }
     ensures { result ≡ pick (nat_lt memories 16) (k + 1) before }
 {
-    if memories < 16 {
-        return k + 1;
-    }
-    before
+    if memories < 16 { k + 1 } else { before }
 }
 
 pub fn begin(n: usize, finish: usize) -> Scan
@@ -155,20 +144,14 @@ pub fn input(n: usize, k: usize, j: u16) -> usize
     ensures { result ≡ pick (nat_lt j n) j k }
 {
     let i = j as usize;
-    if i < n {
-        return i;
-    }
-    k
+    if i < n { i } else { k }
 }
 
 // The kind of cell j of n, 0 past the last.
 fn known(n: usize, j: u16, kind: u8) -> u8
     ensures { result ≡ pick (nat_lt j n) kind 0 }
 {
-    if (j as usize) < n {
-        return kind;
-    }
-    0
+    if (j as usize) < n { kind } else { 0 }
 }
 
 // The scan with cell k, which is c; a and b are the kinds of the cells that its inputs name.
@@ -183,7 +166,7 @@ pub fn step(s: Scan, k: usize, c: Cell, a: u8, b: u8) -> Scan
     let arrays = past_memories(s.memories, k, s.arrays);
     let right = is_placed(k, c) & (arrays_placed(arrays, k, c) & keeps);
     let kept = with_next(s.kept, k, right);
-    let memory = word::bit(c.kind == 40) as usize;
+    let memory = usize::from(c.kind == 40);
     let found = (s.finish == k) & kinds::is_control(c.kind);
     Scan {
         n,
@@ -199,10 +182,7 @@ pub fn step(s: Scan, k: usize, c: Cell, a: u8, b: u8) -> Scan
 fn cut_off(n: usize, m: usize) -> bool
     ensures { result ≡ nat_lt n (m + 8) }
 {
-    if n < ARRAY_CELLS {
-        return true;
-    }
-    n - ARRAY_CELLS < m
+    (n < ARRAY_CELLS) || (n - ARRAY_CELLS < m)
 }
 
 // Refusal 12, when every cell is looked at.
@@ -210,24 +190,15 @@ pub fn told(s: Scan) -> Checked
     ensures { (net : List Cell) (finish : ℕ) → Scanned net finish (length net) s → result ≡ net_check net finish }
 {
     if s.kept < s.n {
-        return Checked::Refused(Refusal {
-            number: 12,
-            place: s.kept,
-        });
+        return refuse(12, s.kept);
     }
     if (s.memories != 16) | cut_off(s.n, s.arrays) {
-        return Checked::Refused(Refusal {
-            number: 12,
-            place: s.n,
-        });
+        return refuse(12, s.n);
     }
     if s.control {
-        return Checked::Accepted;
+        return Ok(());
     }
-    Checked::Refused(Refusal {
-        number: 12,
-        place: s.finish,
-    })
+    refuse(12, s.finish)
 }
 
 // Refusal 12, of n cells and their finish.
@@ -236,13 +207,11 @@ pub fn check_cells(s: &[u8], layout: Layout, n: usize, finish: usize) -> Checked
     ensures { result ≡ net_check (cells_at (offset layout) s.now 0 n) finish }
 {
     let mut scan = begin(n, finish);
-    let mut k: usize = 0;
-    while k < n {
+    for k in 0..n {
         let c = crate::cells::cell_at(s, layout, k);
         let a = kind_at(s, layout, n, c.a as usize);
         let b = kind_at(s, layout, n, c.b as usize);
         scan = step(scan, k, c, a, b);
-        k += 1;
     }
     told(scan)
 }
@@ -260,10 +229,7 @@ fn carries(c: Cell) -> bool
 pub fn first_last(n: usize) -> usize
     ensures { result ≡ n - 16 }
 {
-    if n < LAST_CELLS {
-        return 0;
-    }
-    n - LAST_CELLS
+    n.saturating_sub(LAST_CELLS)
 }
 
 // Refusal 12 of the last sixteen of n cells, which carry the last words.
@@ -271,16 +237,11 @@ pub fn check_last(s: &[u8], layout: Layout, n: usize) -> Checked
     requires { Room layout s.now n }
     ensures { result ≡ last_check (cells_at (offset layout) s.now 0 n) }
 {
-    let mut k = first_last(n);
-    while k < n {
+    for k in first_last(n)..n {
         let c = crate::cells::cell_at(s, layout, k);
         if !carries(c) {
-            return Checked::Refused(Refusal {
-                number: 12,
-                place: k,
-            });
+            return refuse(12, k);
         }
-        k += 1;
     }
-    Checked::Accepted
+    Ok(())
 }

@@ -1,34 +1,25 @@
 // Whether a file is that of a list of cells: what its header tells and its cells are compared, and an accepted file has nothing else.
 // The contract is an equation with model/Text and model/NetlistFile.
+ghost use Rattle.model.specs.Refusals.{Accepted};
 ghost use Rattle.std.specs.Prelude.{◌≡◌, ◌<◌, ◌≤◌};
-ghost use Rattle.model.specs.declared.Checked.TheVariants.{Accepted};
 ghost use Rattle.model.specs.Text.{same};
 ghost use Rattle.model.specs.NetlistFile.{cells_at, in_list, in_file, file_of, file_check};
 ghost use Rattle.netlist.specs.Offsets.{Room};
-ghost use Rattle.netlist.specs.Compared.{same_cell, same_cells};
+ghost use Rattle.netlist.specs.Compared.{same_cells};
 
 use crate::cells::Layout;
-use model::Cell;
-
-fn same_cell(c: Cell, d: Cell) -> bool
-    ensures { result ≡ same_cell c d }
-{
-    ((c.kind == d.kind) & (c.delay == d.delay)) & ((c.a == d.a) & (c.b == d.b))
-}
 
 // Whether the first n cells of a file and of a list are the same.
 fn same_cells(file: &[u8], cells: &[u8], n: usize) -> bool
     requires { Room Layout.InFile file.now n × Room Layout.InList cells.now n }
     ensures { result ≡ same_cells (cells_at in_file file.now 0 n) (cells_at in_list cells.now 0 n) }
 {
-    let mut k: usize = 0;
-    while k < n {
+    for k in 0..n {
         let c = crate::cells::cell_at(file, Layout::InFile, k);
         let d = crate::cells::cell_at(cells, Layout::InList, k);
-        if !same_cell(c, d) {
+        if c != d {
             return false;
         }
-        k += 1;
     }
     true
 }

@@ -1,5 +1,6 @@
 -- Refusals 22 and 24, one root further: the answer from root 0 is the answer from root r.
 -- Assumes nothing.
+use Rattle.std.specs.Prelude.{Err}
 use mathlib.Core.Path.{◌≡◌, refl, sym, ◌∙◌, ap, ap₂}
 use mathlib.Core.Bool.{Bool}
 use mathlib.Core.List.{List, [], ◌∷◌}
@@ -9,9 +10,7 @@ use native.Mathlib.Numerals.{add-one}
 use lib.ListN.{length, drop, drop_of_length-le}
 use lib.Seq.{drop-cons}
 use Rattle.model.specs.declared.Refusal.{Refusal}
-use Rattle.model.specs.declared.Checked.{Checked}
-use Rattle.model.specs.declared.Checked.TheVariants.{Accepted, Refused}
-use Rattle.model.specs.Refusals.{first}
+use Rattle.model.specs.Refusals.{first, Checked, Accepted}
 use Rattle.model.specs.Program.{Code, ok, node_count, stmt_at, preorder, Program, program_of, roots}
 use Rattle.model.specs.ProgramChecks.{in_roots}
 use Rattle.laws.specs.Refusals.Laws.{first_one}
@@ -56,7 +55,7 @@ module _ (late : Bool) {k : ℕ} {s ends : List ℕ} (R : Rooted k s ends) where
         ∙ ap₂ (λ (c : Checked) (j : ℕ). first (c ∷ in_roots (root_fault late) (r + 1) (drop (suc r) (roots S)) j ∷ [])) (sym f) place
         ∙ ap (λ (n : ℕ). first (c ∷ in_roots (root_fault late) (r + 1) (drop n (roots S)) (skips ends (node_count s) (r + 1) 0) ∷ [])) (sym (add-one r))
 
-    pub root-here : {x : Refusal} → c ≡ Refused x → from_root late k s ends r ≡ Refused x
+    pub root-here : {x : Refusal} → c ≡ Err x → from_root late k s ends r ≡ Err x
     root-here h = step ∙ ap (λ (c : Checked). first (c ∷ from_root late k s ends (r + 1) ∷ [])) h
 
     pub root-next : c ≡ Accepted → from_root late k s ends r ≡ from_root late k s ends (r + 1)

@@ -10,10 +10,8 @@ use lib.ListN.{length}
 use lib.Dec.{eqb, leb}
 use borrow.Author.Tests.{ne_eqb}
 use Rattle.model.specs.declared.Node.{Node}
-use Rattle.model.specs.declared.Checked.{Checked}
-use Rattle.model.specs.declared.Checked.TheVariants.{Accepted}
 use Rattle.model.specs.Word.{pick}
-use Rattle.model.specs.Refusals.{refuse, refuse_if, first}
+use Rattle.model.specs.Refusals.{refuse, refuse_if, first, Checked, Accepted}
 use Rattle.model.specs.Program.{Expr, const, var, compl, op, elem, Code, ok, tick, assign, assign_elem, seq, par, ite, while, repeat, loop, exit, call, node_at, node_count, nodes_from, stmt_at, preorder_e, preorder, node}
 use Rattle.model.specs.ProgramChecks.{searched, late_in}
 use Rattle.laws.specs.Refusals.Laws.{first_one}

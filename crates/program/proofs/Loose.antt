@@ -1,5 +1,6 @@
 -- Refusal 22 of the statement at a node, by the node's kind.
 -- Assumes nothing.
+use Rattle.std.specs.Prelude.{Err}
 use mathlib.Core.Path.{◌≡◌, refl, sym, ◌∙◌, ap}
 use mathlib.Core.Bool.{Bool, true, false, ◌&&◌, ◌||◌, not}
 use mathlib.Core.List.{List, [], ◌∷◌, ◌++◌}
@@ -12,9 +13,7 @@ use borrow.Author.Tests.{ltb-true, ltb-false, eqb-true, eqb-false, eq-eqb, ne_eq
 use Rattle.model.specs.declared.Node.{Node}
 use Rattle.model.specs.declared.kinds.Row.{Row}
 use Rattle.model.specs.declared.Refusal.{Refusal}
-use Rattle.model.specs.declared.Checked.{Checked}
-use Rattle.model.specs.declared.Checked.TheVariants.{Accepted, Refused}
-use Rattle.model.specs.Refusals.{refuse_if, first}
+use Rattle.model.specs.Refusals.{refuse_if, first, Checked, Accepted}
 use Rattle.model.specs.Program.{Code, Tree, expr, stmt, none, as_expr, as_stmt, node_at, node_count, kind_table, row_of, trees_at, expr_at, stmt_at, preorder_e, preorder}
 use Rattle.model.specs.ProgramChecks.{children, searched, loose_in}
 use Rattle.laws.specs.Refusals.Laws.{by_bool, or-false, first_one}
@@ -65,7 +64,7 @@ module _ {s ends : List ℕ} {i : ℕ} {inside : Bool} {p : ℕ} {within : Bool}
   abbrev with_first : Checked → Checked
   with_first c = first (c ∷ loose_in within (stmt_at s q) q ∷ [])
 
-  pub stops : {r : Refusal} → c ≡ Refused r → loose_in inside (stmt_at s i) i ≡ Refused r
+  pub stops : {r : Refusal} → c ≡ Err r → loose_in inside (stmt_at s i) i ≡ Err r
   stops h = T.refused q e ∙ ap with_first (sym found ∙ h)
 
   pub passes : c ≡ Accepted → loose_in inside (stmt_at s i) i ≡ loose_in within (stmt_at s q) q

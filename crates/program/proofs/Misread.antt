@@ -9,9 +9,8 @@ use lib.Dec.{eqb}
 use borrow.Author.Tests.{eq-eqb, ne_eqb}
 use Rattle.model.specs.declared.Node.{Node}
 use Rattle.model.specs.declared.kinds.Row.{Row}
-use Rattle.model.specs.declared.Checked.TheVariants.{Accepted}
 use Rattle.model.specs.Word.{pick}
-use Rattle.model.specs.Refusals.{refuse}
+use Rattle.model.specs.Refusals.{refuse, Accepted}
 use Rattle.model.specs.Program.{node_at, node_count, nodes_at, row_of}
 use Rattle.model.specs.ProgramChecks.{children, reading}
 use Rattle.laws.specs.Program.Trees.{nodes-step, nodes-none}

@@ -1,4 +1,5 @@
 -- Refusals 19 to 21 of a table: what a byte's test says of its fault, and which refusal comes first. Assumes nothing.
+use Rattle.std.specs.Prelude.{Err}
 use mathlib.Core.Path.{◌≡◌, refl, sym, ◌∙◌, ap}
 use mathlib.Core.Bool.{true, false}
 use mathlib.Core.List.{List}
@@ -9,9 +10,7 @@ use lib.Seq.{take_all}
 use borrow.Author.Tests.{eq-eqb, ne_eqb}
 use Rattle.model.specs.declared.Refusal.{Refusal}
 use Rattle.model.specs.declared.Options.{Options}
-use Rattle.model.specs.declared.Checked.{Checked}
-use Rattle.model.specs.declared.Checked.TheVariants.{Accepted, Refused}
-use Rattle.model.specs.Refusals.{refuse, first, first_fault}
+use Rattle.model.specs.Refusals.{refuse, first, first_fault, Checked, Accepted}
 use Rattle.model.specs.Program.{time_in}
 use Rattle.model.specs.ProgramChecks.{program_checks, check_of, functional_checks, check_functional}
 use Rattle.model.specs.NetlistFile.{word_sum, pulse_wrong}
@@ -56,7 +55,7 @@ module _ (options : Options) where
   pulse-accepts e = rw e (first_one _)
 
 module _ (options : Options) (s : List ℕ) where
-  pub given-refuses : {r : Refusal} → given_check options ≡ Refused r → check_call options s ≡ Refused r
+  pub given-refuses : {r : Refusal} → given_check options ≡ Err r → check_call options s ≡ Err r
   unfolding check_call
   given-refuses e = rw e refl
 
@@ -66,7 +65,7 @@ module _ (options : Options) (s : List ℕ) where
   given-accepts e = rw e (sym (first_one _))
 
   -- for a functional circuit the table alone
-  pub table-refuses : {r : Refusal} → options.checked ≡ Refused r → check_functional_call options s ≡ Refused r
+  pub table-refuses : {r : Refusal} → options.checked ≡ Err r → check_functional_call options s ≡ Err r
   unfolding check_functional_call
   table-refuses e = rw e refl
 

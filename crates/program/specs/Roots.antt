@@ -1,9 +1,9 @@
 -- The roots of a program that is read: where each begins, what is refused in them, and which of the bodies do what.
 -- Assumes nothing.
+use Rattle.model.specs.Refusals.{Checked}
 use Rattle.std.specs.Prelude.{◌≡◌, refl, Bool, true, false, ◌&&◌, List, [], ◌∷◌, ◌++◌, map, ℕ, zero, suc, ◌+◌, ◌≤◌, ◌<◌, length, get_or}
 use Rattle.std.proofs.Common.{sym, ◌∙◌, arith, add-zero, length-append, get_or-drop}
 use Rattle.std.proofs.Math.Path.{ap}
-use Rattle.model.specs.declared.Checked.{Checked}
 use Rattle.model.specs.Program.{Code, ok, Tree, stmt, none, as_stmt, node_count, trees_at, stmt_at, Program, program_of, roots}
 use Rattle.model.specs.Procedures.{body_at, inline, inlined, reached}
 use Rattle.model.specs.ProgramChecks.{loose_in, late_in, shared, shares, shared_fault, conflict, conflicts, conflict_fault}

@@ -1,15 +1,15 @@
 // What one side of a parallel node may not do beside the other, itself or through calls: refusals 25 and 8.
 // What a statement does is said in specs/Uses, and what clashes in specs/Roots.
-ghost use Rattle.std.specs.Prelude.{◌≡◌, false, ℕ, get_or};
+ghost use Rattle.std.specs.Prelude.{◌≡◌, ◌<◌, false, ℕ, get_or};
 ghost use Rattle.model.specs.Refusals.{first_fault};
 ghost use Rattle.model.specs.Word.{pick};
-ghost use Rattle.model.specs.Program.{node_count, stmt_at, preorder, program_of};
+ghost use Rattle.model.specs.Program.{node_at, node_count, stmt_at, preorder, program_of};
 ghost use Rattle.program.specs.Uses.{names, marked, any_marked, has, carried, Side};
-ghost use Rattle.program.specs.Roots.{Rooted, mark_of, crossing, clash_fault};
+ghost use Rattle.program.specs.Roots.{Rooted, mark_of, crossing, clashes, clash_fault};
 
-use crate::{nodes, refused};
+use crate::nodes::{self, Tree};
 use model::sizes::NODE;
-use model::{Checked, Node};
+use model::{Checked, Node, refuse};
 
 // What a node or a statement may do: write a variable, read or write it, or call a procedure; array n is variable 16 + n.
 #[derive(Clone, Copy)]
@@ -45,45 +45,39 @@ fn marked(node: Node, mark: Mark, bodies: &[bool]) -> bool
 }
 
 // A node of the statement at node i does it.
-fn uses(program: &[u8], ends: &[usize; 200], i: usize, mark: Mark, bodies: &[bool]) -> bool
-    requires { Side program.now ends.now i }
-    ensures { result ≡ any_marked mark (λ p. get_or bodies.now p false) (preorder (stmt_at program.now i)) }
+fn uses(tree: &Tree<'_>, i: usize, mark: Mark, bodies: &[bool]) -> bool
+    requires { Side tree.now.program.now tree.now.ends.now i }
+    ensures { result ≡ any_marked mark (λ p. get_or bodies.now p false) (preorder (stmt_at tree.now.program.now i)) }
 {
-    let count = program.len() / NODE;
-    let end = nodes::next(ends, count, i);
-    let mut k = i;
-    while k < end {
-        if marked(nodes::read_node(program, k), mark, bodies) {
+    let end = tree.next(i);
+    for k in i..end {
+        if marked(nodes::read_node(tree.program, k), mark, bodies) {
             return true;
         }
-        k += 1;
     }
     false
 }
 
 // Which bodies do it: each by those before it.
-fn bodies_with(program: &[u8], ends: &[usize; 200], procedures: usize, mark: Mark) -> [bool; 8]
-    requires { Rooted procedures program.now ends.now }
-    ensures { (p : ℕ) → get_or result p false ≡ carried (program_of 1 procedures program.now).bodies mark p }
+fn bodies_with(tree: &Tree<'_>, procedures: usize, mark: Mark) -> [bool; 8]
+    requires { Rooted procedures tree.now.program.now tree.now.ends.now }
+    ensures { (p : ℕ) → get_or result p false ≡ carried (program_of 1 procedures tree.now.program.now).bodies mark p }
 {
-    let count = program.len() / NODE;
     let mut bodies = [false; 8];
-    let mut p: usize = 0;
-    while p < procedures {
-        let at = nodes::skip(ends, count, 0, p);
-        bodies[p] = uses(program, ends, at, mark, &bodies);
-        p += 1;
+    for p in 0..procedures {
+        let at = tree.skip(0, p);
+        bodies[p] = uses(tree, at, mark, &bodies);
     }
     bodies
 }
 
 // The statement at node i does it, itself or through calls.
-fn does(program: &[u8], ends: &[usize; 200], procedures: usize, i: usize, mark: Mark) -> bool
-    requires { Rooted procedures program.now ends.now × Side program.now ends.now i }
-    ensures { result ≡ has (program_of 1 procedures program.now).bodies mark (stmt_at program.now i) }
+fn does(tree: &Tree<'_>, procedures: usize, i: usize, mark: Mark) -> bool
+    requires { Rooted procedures tree.now.program.now tree.now.ends.now × Side tree.now.program.now tree.now.ends.now i }
+    ensures { result ≡ has (program_of 1 procedures tree.now.program.now).bodies mark (stmt_at tree.now.program.now i) }
 {
-    let bodies = bodies_with(program, ends, procedures, mark);
-    uses(program, ends, i, mark, &bodies)
+    let bodies = bodies_with(tree, procedures, mark);
+    uses(tree, i, mark, &bodies)
 }
 
 // What one side of a parallel node may not do beside the other: where `shared` is set both call procedure x, else one writes variable x and the
@@ -115,43 +109,34 @@ fn clash_number(shared: bool) -> u8
 }
 
 // The statement at node p does the one thing with x, and that at node q the other.
-fn crosses(
-    program: &[u8],
-    ends: &[usize; 200],
-    procedures: usize,
-    p: usize,
-    q: usize,
-    shared: bool,
-    x: u16,
-) -> bool
-    requires { Rooted procedures program.now ends.now × Side program.now ends.now p × Side program.now ends.now q }
-    ensures { result ≡ crossing (program_of 1 procedures program.now).bodies shared (stmt_at program.now p) (stmt_at program.now q) x }
+fn crosses(tree: &Tree<'_>, procedures: usize, p: usize, q: usize, shared: bool, x: u16) -> bool
+    requires { Rooted procedures tree.now.program.now tree.now.ends.now × Side tree.now.program.now tree.now.ends.now p × Side tree.now.program.now tree.now.ends.now q }
+    ensures { result ≡ crossing (program_of 1 procedures tree.now.program.now).bodies shared (stmt_at tree.now.program.now p) (stmt_at tree.now.program.now q) x }
 {
-    does(program, ends, procedures, p, mark_of(shared, false, x))
-        && does(program, ends, procedures, q, mark_of(shared, true, x))
+    does(tree, procedures, p, mark_of(shared, false, x))
+        && does(tree, procedures, q, mark_of(shared, true, x))
 }
 
-// Refusal 8 or, where `shared` is set, 25: parallel nodes in node order, and for each the variables and arrays, or the procedures.
-pub fn first_clash(program: &[u8], ends: &[usize; 200], procedures: usize, shared: bool) -> Checked
-    requires { Rooted procedures program.now ends.now }
-    ensures { result ≡ first_fault (clash_fault (program_of 1 procedures program.now).bodies shared program.now) 0 (node_count program.now) }
+// Refusal 8 or, where `shared` is set, 25: parallel nodes in node order, and for each the variables and arrays, or the procedures. The labelled loops
+// are left at the first clash, whose node is told after them, so the node is counted by hand.
+pub fn first_clash(tree: &Tree<'_>, procedures: usize, shared: bool) -> Checked
+    requires { Rooted procedures tree.now.program.now tree.now.ends.now }
+    ensures { result ≡ first_fault (clash_fault (program_of 1 procedures tree.now.program.now).bodies shared tree.now.program.now) 0 (node_count tree.now.program.now) }
 {
-    let count = program.len() / NODE;
+    let count = tree.program.len() / NODE;
     let most = most_of(shared, procedures);
     let mut i: usize = 0;
     'nodes: while i < count {
-        let node = nodes::read_node(program, i);
+        let node = nodes::read_node(tree.program, i);
         if node.kind == 20 {
-            let second = nodes::next(ends, count, i + 1);
-            let mut x: usize = 0;
-            while x < most {
+            let second = tree.next(i + 1);
+            for x in 0..most {
                 let n = x as u16;
-                if crosses(program, ends, procedures, i + 1, second, shared, n)
-                    | crosses(program, ends, procedures, second, i + 1, shared, n)
+                if crosses(tree, procedures, i + 1, second, shared, n)
+                    | crosses(tree, procedures, second, i + 1, shared, n)
                 {
                     break 'nodes;
                 }
-                x += 1;
             }
             i += 1;
         } else {
@@ -159,7 +144,7 @@ pub fn first_clash(program: &[u8], ends: &[usize; 200], procedures: usize, share
         }
     }
     if i < count {
-        return refused(clash_number(shared), i);
+        return refuse(clash_number(shared), i);
     }
-    Checked::Accepted
+    Ok(())
 }

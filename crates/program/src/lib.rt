@@ -3,15 +3,15 @@
 // In all files `|` and `&` stand between tests where both sides are cheap: they are the model's own `||` and `&&`.
 #![tactic(auto)]
 
-ghost use Rattle.std.specs.Prelude.{◌≡◌, ℕ, ◌<◌, drop};
+ghost use Rattle.std.specs.Prelude.{◌≡◌, drop};
 ghost use Rattle.model.specs.Refusals.{refuse, first};
-ghost use Rattle.model.specs.Program.{node_count, time_in};
+ghost use Rattle.model.specs.Program.{time_in};
 ghost use Rattle.model.specs.ProgramChecks.{program_checks};
 ghost use Rattle.model.specs.Calls.{check_call};
 ghost use Rattle.model.specs.FunctionalCalls.{check_functional_call};
 ghost use Rattle.laws.specs.Program.Passed.{Readable};
 ghost use Rattle.program.specs.Roots.{Rooted};
-ghost use Rattle.program.specs.Shape.{Shaped, Measures, ScansBy, Scans, FunctionalBy, Functionally};
+ghost use Rattle.program.specs.Shape.{AllShaped, Tells};
 
 pub mod tables; // what is given beside a program
 pub mod kinds; // the table of node kinds
@@ -21,178 +21,112 @@ mod roots; // refusals 22 and 24
 mod times; // expression times, and refusal 7
 mod clashes; // refusals 25 and 8
 
+use crate::nodes::Tree;
 use model::sizes::NODE;
 use model::{Checked, Options, Refusal};
 
-// What the check answers, with each node's expression time and the node after its subtree.
+// What a scan tells of an accepted program: each node's expression time, and the node after its subtree.
 #[derive(Clone, Copy)]
 pub struct Scanned {
-    pub checked: Checked,
     pub times: [u16; 200],
     pub ends: [usize; 200],
 }
 
-fn refused(number: u8, place: usize) -> Checked
-    ensures { result ≡ refuse number place }
-{
-    Checked::Refused(Refusal { number, place })
-}
-
 // Refusals 7, 25 and 8.
-fn last_check(
-    operators: &[u8],
-    pulse: u8,
-    program: &[u8],
-    procedures: usize,
-    times: &[u16; 200],
-    ends: &[usize; 200],
-) -> Checked
-    requires { Rooted procedures program.now ends.now × ((j : ℕ) → j < node_count program.now → Shaped (time_in operators.now) program.now times.now ends.now j) }
-    ensures { result ≡ first (drop 5 (program_checks (time_in operators.now) pulse procedures program.now)) }
+fn last_check(options: &Options, program: &[u8], told: &Scanned) -> Checked
+    requires { Rooted options.now.procedures program.now told.now.ends × AllShaped (time_in options.now.times) program.now told.now }
+    ensures { result ≡ first (drop 5 (program_checks (time_in options.now.times) options.now.pulse options.now.procedures program.now)) }
 {
-    let slow = times::first_slow(operators, pulse, program, times, ends);
-    match slow {
-        Checked::Refused(r) => Checked::Refused(r),
-        Checked::Accepted => {
-            let both = clashes::first_clash(program, ends, procedures, true);
-            match both {
-                Checked::Refused(r) => Checked::Refused(r),
-                Checked::Accepted => clashes::first_clash(program, ends, procedures, false),
-            }
-        }
-    }
+    times::first_slow(&options.times, options.pulse, program, told)?;
+    let tree = Tree {
+        program,
+        ends: &told.ends,
+    };
+    clashes::first_clash(&tree, options.procedures, true)?;
+    clashes::first_clash(&tree, options.procedures, false)
 }
 
 // Refusals 22 and 24, and then those.
-fn late_check(
-    operators: &[u8],
-    pulse: u8,
-    program: &[u8],
-    procedures: usize,
-    times: &[u16; 200],
-    ends: &[usize; 200],
-) -> Checked
-    requires { Rooted procedures program.now ends.now × ((j : ℕ) → j < node_count program.now → Shaped (time_in operators.now) program.now times.now ends.now j) }
-    ensures { result ≡ first (drop 3 (program_checks (time_in operators.now) pulse procedures program.now)) }
+fn late_check(options: &Options, program: &[u8], told: &Scanned) -> Checked
+    requires { Rooted options.now.procedures program.now told.now.ends × AllShaped (time_in options.now.times) program.now told.now }
+    ensures { result ≡ first (drop 3 (program_checks (time_in options.now.times) options.now.pulse options.now.procedures program.now)) }
 {
-    let loose = roots::first_in_roots(program, ends, procedures, false);
-    match loose {
-        Checked::Refused(r) => Checked::Refused(r),
-        Checked::Accepted => {
-            let late = roots::first_in_roots(program, ends, procedures, true);
-            match late {
-                Checked::Refused(r) => Checked::Refused(r),
-                Checked::Accepted => last_check(operators, pulse, program, procedures, times, ends),
-            }
-        }
-    }
+    let tree = Tree {
+        program,
+        ends: &told.ends,
+    };
+    roots::first_in_roots(&tree, options.procedures, false)?;
+    roots::first_in_roots(&tree, options.procedures, true)?;
+    last_check(options, program, told)
 }
 
-// The arrays, filled from the last node to the first, and the refusals that read them.
-fn measure(operators: &[u8], pulse: u8, program: &[u8], procedures: usize) -> Scanned
-    requires { Readable procedures program.now }
-    ensures { Measures operators.now pulse procedures program.now result }
+// The arrays, filled from the last node to the first.
+fn measure(options: &Options, program: &[u8]) -> Scanned
+    requires { Readable options.now.procedures program.now }
+    ensures { AllShaped (time_in options.now.times) program.now result }
 {
-    let count = program.len() / NODE;
-    let mut times = [0u16; 200];
-    let mut ends = [0usize; 200];
-    let mut i = count;
-    while 0 < i {
-        i -= 1;
-        let node = nodes::read_node(program, i);
-        let row = kinds::kind_row(node.kind);
-        let time = times::time_at(operators, program, &times, &ends, i);
-        let end = nodes::skip(&ends, count, i + 1, row.exprs as usize + row.stmts as usize);
-        times[i] = time;
-        ends[i] = end;
+    let mut told = Scanned {
+        times: [0; 200],
+        ends: [0; 200],
+    };
+    for i in (0..program.len() / NODE).rev() {
+        let row = kinds::kind_row(nodes::read_node(program, i).kind);
+        told.times[i] = times::time_at(&options.times, program, &told, i);
+        let tree = Tree {
+            program,
+            ends: &told.ends,
+        };
+        told.ends[i] = tree.skip(i + 1, row.exprs as usize + row.stmts as usize);
     }
-    let checked = late_check(operators, pulse, program, procedures, &times, &ends);
-    Scanned {
-        checked,
-        times,
-        ends,
-    }
+    told
 }
 
-// What a refused program is scanned as.
-fn unscanned(refusal: Refusal) -> Scanned
-    ensures { result.checked ≡ Checked.Refused refusal }
+// The refusals after 6, with the arrays.
+fn scan_readable(options: &Options, program: &[u8]) -> Result<Scanned, Refusal>
+    requires { Readable options.now.procedures program.now }
+    ensures { Tells (time_in options.now.times) program.now (first (drop 3 (program_checks (time_in options.now.times) options.now.pulse options.now.procedures program.now))) result }
 {
-    Scanned {
-        checked: Checked::Refused(refusal),
-        times: [0u16; 200],
-        ends: [0usize; 200],
-    }
-}
-
-// Refusals 1 to 8, 22, 24 and 25 under operator times, with the arrays.
-fn scan_by(operators: &[u8], pulse: u8, program: &[u8], procedures: usize) -> Scanned
-    ensures { ScansBy operators.now pulse procedures program.now result }
-{
-    let early = reading::early_check(program, procedures);
-    match early {
-        Checked::Refused(r) => unscanned(r),
-        Checked::Accepted => measure(operators, pulse, program, procedures),
-    }
+    let told = measure(options, program);
+    late_check(options, program, &told)?;
+    Ok(told)
 }
 
 // All refusals, those of what is given first, with the arrays that the compiler and the reference run go by.
-pub fn scan(options: Options, program: &[u8]) -> Scanned
-    ensures { Scans options program.now result }
+pub fn scan(options: Options, program: &[u8]) -> Result<Scanned, Refusal>
+    ensures { Tells (time_in options.times) program.now (check_call options program.now) result }
 {
-    let beside = tables::check_given(options);
-    match beside {
-        Checked::Refused(r) => unscanned(r),
-        Checked::Accepted => {
-            let operators = options.times;
-            scan_by(&operators, options.pulse, program, options.procedures)
-        }
-    }
+    tables::check_given(options)?;
+    reading::early_check(program, options.procedures)?;
+    scan_readable(&options, program)
 }
 
 // The check of a program.
 pub fn check(options: Options, program: &[u8]) -> Checked
     ensures { result ≡ check_call options program.now }
 {
-    let told = scan(options, program);
-    told.checked
+    scan(options, program)?;
+    Ok(())
 }
 
-// As scan_by, with refusal 28 after 6: no procedures, and pulses of one instant.
-fn scan_functional_by(operators: &[u8], program: &[u8]) -> Scanned
-    ensures { FunctionalBy operators.now program.now result }
+// As scan, for a functional circuit, which is given a table alone; refusal 28 comes after 6.
+pub fn scan_functional(options: Options, program: &[u8]) -> Result<Scanned, Refusal>
+    ensures { Tells (time_in options.times) program.now (check_functional_call options program.now) result }
 {
-    let early = reading::early_check(program, 0);
-    match early {
-        Checked::Refused(r) => unscanned(r),
-        Checked::Accepted => {
-            let more = reading::first_added(program);
-            match more {
-                Checked::Refused(r) => unscanned(r),
-                Checked::Accepted => measure(operators, 1, program, 0),
-            }
-        }
-    }
-}
-
-// As scan, for a functional circuit, which is given a table alone.
-pub fn scan_functional(options: Options, program: &[u8]) -> Scanned
-    ensures { Functionally options program.now result }
-{
-    let beside = options.checked;
-    match beside {
-        Checked::Refused(r) => unscanned(r),
-        Checked::Accepted => {
-            let operators = options.times;
-            scan_functional_by(&operators, program)
-        }
-    }
+    options.checked?;
+    reading::early_check(program, 0)?;
+    reading::first_added(program)?;
+    let alone = Options {
+        procedures: 0,
+        pulse: 1,
+        ..options
+    };
+    scan_readable(&alone, program)
 }
 
 // The check of a program for a functional circuit.
 pub fn check_functional(options: Options, program: &[u8]) -> Checked
     ensures { result ≡ check_functional_call options program.now }
 {
-    let told = scan_functional(options, program);
-    told.checked
+    scan_functional(options, program)?;
+    Ok(())
 }

@@ -1,7 +1,7 @@
-// Nodes in bytes, and where subtrees end. `ends` has for each of `count` nodes the node after its subtree (specs/Ends).
+// Nodes in bytes, and where subtrees end: `ends` has for each node the node after its subtree (specs/Ends).
 // Root r, body r or the main program, begins behind r subtrees.
 ghost use Rattle.std.specs.Prelude.{◌≡◌, ◌+◌, ◌*◌, ◌≤◌, ◌<◌, length};
-ghost use Rattle.model.specs.Program.{node_at};
+ghost use Rattle.model.specs.Program.{node_at, node_count};
 ghost use Rattle.program.specs.Ends.{past, skips};
 
 use model::Node;
@@ -19,24 +19,35 @@ pub fn read_node(program: &[u8], i: usize) -> Node
     }
 }
 
-// The node after the subtree of node i.
-pub fn next(ends: &[usize; 200], count: usize, i: usize) -> usize
-    requires { count ≤ 200 }
-    ensures { result ≡ past ends.now count i }
-{
-    if i < count { ends[i] } else { i }
+// A program, and where the subtrees of its nodes end.
+#[derive(Clone, Copy)]
+pub struct Tree<'a> {
+    pub program: &'a [u8],
+    pub ends: &'a [usize; 200],
 }
 
-// The node after so many subtrees that begin at node `from`.
-pub fn skip(ends: &[usize; 200], count: usize, from: usize, trees: usize) -> usize
-    requires { count ≤ 200 }
-    ensures { result ≡ skips ends.now count trees from }
-{
-    let mut at = from;
-    let mut left = trees;
-    while 0 < left {
-        at = next(ends, count, at);
-        left -= 1;
+impl Tree<'_> {
+    // The node after the subtree of node i.
+    pub fn next(&self, i: usize) -> usize
+        requires { length self.now.program.now ≤ 800 }
+        ensures { result ≡ past self.now.ends.now (node_count self.now.program.now) i }
+    {
+        if i < self.program.len() / NODE {
+            self.ends[i]
+        } else {
+            i
+        }
     }
-    at
+
+    // The node after so many subtrees that begin at node `from`.
+    pub fn skip(&self, from: usize, trees: usize) -> usize
+        requires { length self.now.program.now ≤ 800 }
+        ensures { result ≡ skips self.now.ends.now (node_count self.now.program.now) trees from }
+    {
+        let mut at = from;
+        for _ in 0..trees {
+            at = self.next(at);
+        }
+        at
+    }
 }

@@ -1,13 +1,13 @@
 // Whether bytes can be read as a program: refusals 1 to 6.
 // Each contract is an equation with model/ProgramChecks.
-ghost use Rattle.std.specs.Prelude.{◌≡◌, ℕ, ◌≤◌, length, take};
+ghost use Rattle.std.specs.Prelude.{◌≡◌, ℕ, ◌≤◌, ◌<◌, length, take, MatchOption};
 ghost use Rattle.model.specs.Refusals.{first, first_fault};
 ghost use Rattle.model.specs.Program.{node_at, node_count, nodes_at};
 ghost use Rattle.model.specs.ProgramChecks.{program_length_wrong, unused_set, absent, node_fault, reading, root_sorts, program_checks, added, added_fault};
 
-use crate::{kinds, nodes, refused};
+use crate::{kinds, nodes};
 use model::sizes::{NODE, PROGRAM_MOST};
-use model::{Checked, Node};
+use model::{Checked, Node, refuse};
 
 const MOST_PROCEDURES: usize = 8;
 
@@ -25,18 +25,22 @@ fn absent(used: u8, n: u16) -> bool
     ((used == 2) & (15 < n)) | ((used == 3) & (3 < n))
 }
 
-// Refusals 2 to 4 of one node, or 0.
-fn fault_of(node: Node) -> u8
-    ensures { result ≡ node_fault node }
+// Refusals 2 to 4 of one node.
+fn fault_of(node: Node) -> Option<u8>
+    ensures { MatchOption result (node_fault node ≡ 0) (λ number. (node_fault node ≡ number) × (0 < number)) }
 {
     let row = kinds::kind_row(node.kind);
     if row.sort == 0 {
-        return 2;
+        return Some(2);
     }
     if spare(row.delay, node.delay as u16) | spare(row.number, node.n) {
-        return 3;
+        return Some(3);
     }
-    if absent(row.number, node.n) { 4 } else { 0 }
+    if absent(row.number, node.n) {
+        Some(4)
+    } else {
+        None
+    }
 }
 
 // Refusal 1.
@@ -51,16 +55,12 @@ fn length_wrong(program: &[u8]) -> bool
 fn first_fault(program: &[u8]) -> Checked
     ensures { result ≡ first_fault (λ i. node_fault (node_at program.now i)) 0 (node_count program.now) }
 {
-    let count = program.len() / NODE;
-    let mut i: usize = 0;
-    while i < count {
-        let number = fault_of(nodes::read_node(program, i));
-        if number != 0 {
-            return refused(number, i);
+    for i in 0..program.len() / NODE {
+        if let Some(number) = fault_of(nodes::read_node(program, i)) {
+            return refuse(number, i);
         }
-        i += 1;
     }
-    Checked::Accepted
+    Ok(())
 }
 
 // Refusals 5 and 6. What is still to be read is always some expressions and then some statements, so two counts tell it.
@@ -71,32 +71,28 @@ fn first_misread(program: &[u8], procedures: usize) -> Checked
     let count = program.len() / NODE;
     let mut exprs: usize = 0;
     let mut stmts: usize = procedures + 1;
-    let mut i: usize = 0;
-    while i < count {
-        let node = nodes::read_node(program, i);
-        let row = kinds::kind_row(node.kind);
+    for i in 0..count {
+        let row = kinds::kind_row(nodes::read_node(program, i).kind);
         if exprs == 0 {
             if stmts == 0 {
-                return refused(6, i);
+                return refuse(6, i);
             }
             if row.sort != 2 {
-                return refused(5, i);
+                return refuse(5, i);
             }
             exprs = row.exprs as usize;
             stmts = stmts - 1 + row.stmts as usize;
-            i += 1;
         } else {
             if row.sort != 1 {
-                return refused(5, i);
+                return refuse(5, i);
             }
             exprs = exprs - 1 + row.exprs as usize;
-            i += 1;
         }
     }
     if exprs + stmts == 0 {
-        return Checked::Accepted;
+        return Ok(());
     }
-    refused(6, count)
+    refuse(6, count)
 }
 
 // Refusals 1 to 6, which no operator time touches.
@@ -104,13 +100,10 @@ pub fn early_check(program: &[u8], procedures: usize) -> Checked
     ensures { (τ : ℕ → ℕ) (w : ℕ) → result ≡ first (take 3 (program_checks τ w procedures program.now)) }
 {
     if (MOST_PROCEDURES < procedures) | length_wrong(program) {
-        return refused(1, 0);
+        return refuse(1, 0);
     }
-    let faults = first_fault(program);
-    match faults {
-        Checked::Refused(r) => Checked::Refused(r),
-        Checked::Accepted => first_misread(program, procedures),
-    }
+    first_fault(program)?;
+    first_misread(program, procedures)
 }
 
 // A kind that document 01 doesn't have.
@@ -124,14 +117,10 @@ fn added(kind: u8) -> bool
 pub fn first_added(program: &[u8]) -> Checked
     ensures { result ≡ first_fault (added_fault program.now) 0 (node_count program.now) }
 {
-    let count = program.len() / NODE;
-    let mut i: usize = 0;
-    while i < count {
-        let node = nodes::read_node(program, i);
-        if added(node.kind) {
-            return refused(28, i);
+    for i in 0..program.len() / NODE {
+        if added(nodes::read_node(program, i).kind) {
+            return refuse(28, i);
         }
-        i += 1;
     }
-    Checked::Accepted
+    Ok(())
 }

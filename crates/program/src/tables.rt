@@ -5,9 +5,8 @@ ghost use Rattle.std.specs.Prelude.{◌≡◌, length, get_or};
 ghost use Rattle.model.specs.Refusals.{first, first_fault};
 ghost use Rattle.model.specs.TimeTables.{byte_wrong, table_fault, table_checks, built_in, given, given_if, beside, load, defaults, given_check};
 
-use crate::refused;
 use model::sizes::BLOCK;
-use model::{Checked, Options};
+use model::{Checked, Options, refuse};
 
 // The paper's operator times: entry k is that of kind k.
 const BUILT_IN: [u8; 11] = [0, 0, 0, 1, 16, 17, 1, 1, 6, 17, 4];
@@ -17,7 +16,7 @@ fn built_in(procedures: usize, pulse: u8) -> Options
     ensures { result ≡ load (beside built_in procedures pulse) }
 {
     Options {
-        checked: Checked::Accepted,
+        checked: Ok(()),
         times: BUILT_IN,
         procedures,
         pulse,
@@ -52,14 +51,12 @@ fn first_wrong(file: &[u8]) -> Checked
     requires { length file.now ≡ 512 }
     ensures { result ≡ first_fault (table_fault file.now) 0 512 }
 {
-    let mut i: usize = 0;
-    while i < BLOCK {
-        if byte_wrong(i, file[i]) {
-            return refused(21, i);
+    for (i, b) in file.iter().enumerate() {
+        if byte_wrong(i, *b) {
+            return refuse(21, i);
         }
-        i += 1;
     }
-    Checked::Accepted
+    Ok(())
 }
 
 // Refusals 19 to 21.
@@ -67,10 +64,10 @@ fn check_table(file: &[u8]) -> Checked
     ensures { result ≡ first (table_checks file.now) }
 {
     if file.len() != BLOCK {
-        return refused(19, 0);
+        return refuse(19, 0);
     }
     if word::sum16(file, 0, 256) != 0 {
-        return refused(20, 0);
+        return refuse(20, 0);
     }
     first_wrong(file)
 }
@@ -122,7 +119,7 @@ pub fn check_given(options: Options) -> Checked
     ensures { result ≡ given_check options }
 {
     if (options.pulse == 0) | (8 < options.pulse) {
-        return refused(27, 0);
+        return refuse(27, 0);
     }
     options.checked
 }

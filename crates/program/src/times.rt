@@ -6,15 +6,10 @@ ghost use Rattle.model.specs.Program.{node_count, expr_at, stmt_at, time, time_i
 ghost use Rattle.model.specs.ProgramChecks.{delay_fault};
 ghost use Rattle.program.specs.Shape.{Shaped};
 
-use crate::{nodes, refused};
-use model::Checked;
+use crate::nodes::Tree;
+use crate::{Scanned, nodes};
 use model::sizes::NODE;
-
-fn larger(a: u16, b: u16) -> u16
-    ensures { result ≡ max a b }
-{
-    if a < b { b } else { a }
-}
+use model::{Checked, refuse};
 
 // The operator time of a kind.
 fn operator_time(operators: &[u8], kind: u8) -> u16
@@ -41,14 +36,8 @@ fn known_time(operators: &[u8], program: &[u8], times: &[u16; 200], i: usize) ->
 }
 
 // The expression time of node i, where the arrays have those after it.
-pub fn time_at(
-    operators: &[u8],
-    program: &[u8],
-    times: &[u16; 200],
-    ends: &[usize; 200],
-    i: usize,
-) -> u16
-    requires { (length program.now ≤ 800) × (i < node_count program.now) × ((j : ℕ) → i + 1 ≤ j → j < node_count program.now → Shaped (time_in operators.now) program.now times.now ends.now j) }
+pub fn time_at(operators: &[u8], program: &[u8], told: &Scanned, i: usize) -> u16
+    requires { (length program.now ≤ 800) × (i < node_count program.now) × ((j : ℕ) → i + 1 ≤ j → j < node_count program.now → Shaped (time_in operators.now) program.now told.now.times told.now.ends j) }
     ensures { result ≡ time (time_in operators.now) (expr_at program.now i) }
 {
     let node = nodes::read_node(program, i);
@@ -63,16 +52,19 @@ pub fn time_at(
     if kind == 2 {
         return operator;
     }
-    let first = known_time(operators, program, times, i + 1);
+    let first = known_time(operators, program, &told.times, i + 1);
     if kind == 3 {
         return operator + first;
     }
     if kind == 10 {
         return operator + first;
     }
-    let count = program.len() / NODE;
-    let second = known_time(operators, program, times, nodes::next(ends, count, i + 1));
-    operator + larger(first, second)
+    let tree = Tree {
+        program,
+        ends: &told.ends,
+    };
+    let second = known_time(operators, program, &told.times, tree.next(i + 1));
+    operator + first.max(second)
 }
 
 // The least delay of a loop and of a call, for this pulse length.
@@ -83,15 +75,8 @@ fn gap(pulse: u8) -> u16
 }
 
 // The least delay that node i may have.
-fn least_at(
-    operators: &[u8],
-    pulse: u8,
-    program: &[u8],
-    times: &[u16; 200],
-    ends: &[usize; 200],
-    i: usize,
-) -> u16
-    requires { (length program.now ≤ 800) × (i < node_count program.now) × ((j : ℕ) → j < node_count program.now → Shaped (time_in operators.now) program.now times.now ends.now j) }
+fn least_at(operators: &[u8], pulse: u8, program: &[u8], told: &Scanned, i: usize) -> u16
+    requires { (length program.now ≤ 800) × (i < node_count program.now) × ((j : ℕ) → j < node_count program.now → Shaped (time_in operators.now) program.now told.now.times told.now.ends j) }
     ensures { result ≡ least (time_in operators.now) pulse (stmt_at program.now i) }
 {
     let node = nodes::read_node(program, i);
@@ -114,40 +99,34 @@ fn least_at(
     if kind == 26 {
         return 0;
     }
-    let time = known_time(operators, program, times, i + 1);
+    let time = known_time(operators, program, &told.times, i + 1);
     if kind == 21 {
         return time;
     }
     if kind == 24 {
-        let count = program.len() / NODE;
-        let second = known_time(operators, program, times, nodes::next(ends, count, i + 1));
-        return larger(1, larger(time, second));
+        let tree = Tree {
+            program,
+            ends: &told.ends,
+        };
+        let second = known_time(operators, program, &told.times, tree.next(i + 1));
+        return u16::max(1, time.max(second));
     }
     if kind == 18 {
-        return larger(1, time);
+        return u16::max(1, time);
     }
-    larger(gap(pulse), time)
+    gap(pulse).max(time)
 }
 
 // Refusal 7: the first node whose delay is too small.
-pub fn first_slow(
-    operators: &[u8],
-    pulse: u8,
-    program: &[u8],
-    times: &[u16; 200],
-    ends: &[usize; 200],
-) -> Checked
-    requires { (length program.now ≤ 800) × ((j : ℕ) → j < node_count program.now → Shaped (time_in operators.now) program.now times.now ends.now j) }
+pub fn first_slow(operators: &[u8], pulse: u8, program: &[u8], told: &Scanned) -> Checked
+    requires { (length program.now ≤ 800) × ((j : ℕ) → j < node_count program.now → Shaped (time_in operators.now) program.now told.now.times told.now.ends j) }
     ensures { result ≡ first_fault (delay_fault (time_in operators.now) pulse program.now) 0 (node_count program.now) }
 {
-    let count = program.len() / NODE;
-    let mut i: usize = 0;
-    while i < count {
+    for i in 0..program.len() / NODE {
         let node = nodes::read_node(program, i);
-        if (node.delay as u16) < least_at(operators, pulse, program, times, ends, i) {
-            return refused(7, i);
+        if u16::from(node.delay) < least_at(operators, pulse, program, told, i) {
+            return refuse(7, i);
         }
-        i += 1;
     }
-    Checked::Accepted
+    Ok(())
 }

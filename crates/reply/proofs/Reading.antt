@@ -1,17 +1,16 @@
 -- A reply that was put into a buffer is read back as the answer that it was made from; and three of them byte by byte, worked out by hand.
 -- Assumes nothing.
+use Rattle.model.specs.Refusals.{Checked, Accepted, Done}
+use Rattle.std.specs.Prelude.{Result, Ok, Err}
 use mathlib.Core.Path.{◌≡◌, refl, sym, ◌∙◌, ap, ap₂}
 use mathlib.Core.List.{List, [], ◌∷◌, ◌++◌}
-use mathlib.Core.Logic.{inl, inr}
-use Prim.Native.Nat.{ℕ, zero, suc, ◌+◌, ◌*◌, ◌/◌, ◌%◌, ◌<◌, ◌≤◌}
+use mathlib.Core.Logic.{inl}
+use Prim.Native.Nat.{ℕ, suc, ◌+◌, ◌*◌, ◌/◌, ◌%◌, ◌<◌, ◌≤◌}
 use native.Mathlib.Omega.{arith}
 use lib.ListN.{length, get_or, set, length-set, replicate}
 use lib.Seq.{get_or-set_same, get_or-set_other}
 use Rattle.model.specs.declared.Refusal.{Refusal}
-use Rattle.model.specs.declared.Checked.{Checked}
-use Rattle.model.specs.declared.Checked.TheVariants.{Accepted}
 use Rattle.model.specs.declared.Written.{Written}
-use Rattle.model.specs.declared.Written.TheVariants.{Done}
 use Rattle.model.specs.declared.Outcome.{Outcome}
 use Rattle.model.specs.declared.Outcome.TheVariants.{Ended, Open}
 use Rattle.model.specs.Word.{get16, put16, get32, put32}
@@ -145,15 +144,15 @@ module _ (s : List ℕ) (room : 48 ≤ length s) where
 
   checked-back : (c : Checked) → CheckedTold c → checked_in (replied (checked_reply c) s) ≡ c
   unfolding checked_reply checked_in
-  checked-back Accepted t = rw (kind-of (checked_reply Accepted) 0 refl (omega arith)) refl
-  checked-back (Checked.Refused r) t = rw (kind-of (refused_reply r) 3 refl (omega arith)) (ap (λ (q : Refusal). Checked.Refused q) (refused-in r t))
+  checked-back (Ok _) t = rw (kind-of (checked_reply Accepted) 0 refl (omega arith)) refl
+  checked-back (Err r) t = rw (kind-of (refused_reply r) 3 refl (omega arith)) (ap (λ (q : Refusal). Err q) (refused-in r t))
 
-  written_back : (w : Written) → WrittenTold w → written_in (replied (written_reply w) s) ≡ w
+  written_back : (w : Result Written Refusal) → WrittenTold w → written_in (replied (written_reply w) s) ≡ w
   unfolding written_reply written_in
-  written_back (Done n f) t =
-      rw (kind-of (written_reply (Done n f)) 0 refl (omega arith))
-      (ap₂ Done (first-is (written_reply (Done n f)) s room ∙ omega (arith, t)) (second_is (written_reply (Done n f)) s room))
-  written_back (Written.Refused r) t = rw (kind-of (refused_reply r) 3 refl (omega arith)) (ap (λ (q : Refusal). Written.Refused q) (refused-in r t))
+  written_back (Ok w) t =
+      rw (kind-of (written_reply (Ok w)) 0 refl (omega arith))
+      (ap₂ Done (first-is (written_reply (Ok w)) s room ∙ omega (arith, t)) (second_is (written_reply (Ok w)) s room))
+  written_back (Err r) t = rw (kind-of (refused_reply r) 3 refl (omega arith)) (ap (λ (q : Refusal). Err q) (refused-in r t))
 
   answer_back : (o : Outcome) (t n : ℕ) (ws : List ℕ) → AnswerTold o (record { outcome = o; instant = t; count = n; words = ws })
       → answer_in (replied (outcome_reply o t n ws) s) ≡ record { outcome = o; instant = t; count = n; words = ws }
@@ -174,7 +173,7 @@ module _ (s : List ℕ) (room : 48 ≤ length s) where
 
 -- a refusal 12 at place 70,000, a file of 1,024 bytes with finish 300, and an end at 1,000,000 with words 1 to 16, byte by byte, in a buffer of one byte more
 rows_right :
-    (replied (checked_reply (Checked.Refused (record { number = 12; place = 70000 }))) (replicate 49 7) ≡ 3 ∷ 12 ∷ 0 ∷ 0 ∷ 112 ∷ 17 ∷ 1 ∷ 0 ∷ replicate 40 0 ++ (7 ∷ []))
+    (replied (checked_reply (Err (record { number = 12; place = 70000 }))) (replicate 49 7) ≡ 3 ∷ 12 ∷ 0 ∷ 0 ∷ 112 ∷ 17 ∷ 1 ∷ 0 ∷ replicate 40 0 ++ (7 ∷ []))
     × (replied (written_reply (Done 1024 300)) (replicate 49 7) ≡ 0 ∷ 0 ∷ 0 ∷ 0 ∷ 0 ∷ 0 ∷ 0 ∷ 0 ∷ 0 ∷ 4 ∷ 0 ∷ 0 ∷ 44 ∷ 1 ∷ 0 ∷ 0 ∷ replicate 32 0 ++ (7 ∷ []))
     × (replied (outcome_reply Ended 1000000 1000001 (1 ∷ 2 ∷ 3 ∷ 4 ∷ 5 ∷ 6 ∷ 7 ∷ 8 ∷ 9 ∷ 10 ∷ 11 ∷ 12 ∷ 13 ∷ 14 ∷ 15 ∷ 65535 ∷ [])) (replicate 49 7)
     ≡ 1 ∷ 0 ∷ 0 ∷ 0 ∷ 0 ∷ 0 ∷ 0 ∷ 0 ∷ 64 ∷ 66 ∷ 15 ∷ 0 ∷ 65 ∷ 66 ∷ 15 ∷ 0

@@ -1,12 +1,10 @@
 -- Replies read back: what their 48 bytes say, and that it is the answer that they were made from, as a type.
 -- The proof is in proofs/Reading: read-back.
 -- Assumes nothing: definitions.
-use Rattle.std.specs.Prelude.{◌≡◌, List, ℕ, ◌+◌, ◌*◌, ◌<◌, ◌≤◌, eqb, length, get_or}
+use Rattle.model.specs.Refusals.{Checked, Accepted, Done}
+use Rattle.std.specs.Prelude.{◌≡◌, List, ℕ, ◌+◌, ◌*◌, ◌<◌, eqb, length, get_or, Result, Ok, Err}
 use Rattle.model.specs.declared.Refusal.{Refusal}
-use Rattle.model.specs.declared.Checked.{Checked}
-use Rattle.model.specs.declared.Checked.TheVariants.{Accepted}
 use Rattle.model.specs.declared.Written.{Written}
-use Rattle.model.specs.declared.Written.TheVariants.{Done}
 use Rattle.model.specs.declared.Outcome.{Outcome}
 use Rattle.model.specs.declared.Outcome.TheVariants.{Ended, Open}
 use Rattle.model.specs.declared.Answer.{Answer}
@@ -19,10 +17,10 @@ abbrev pub refusal_in : List ℕ → Refusal
 refusal_in s = record { number = get_or s 1 0; place = get32 s 4 }
 
 unfoldable pub checked_in : List ℕ → Checked
-checked_in s = pick (eqb (get_or s 0 0) 3) (Checked.Refused (refusal_in s)) Accepted
+checked_in s = pick (eqb (get_or s 0 0) 3) (Err (refusal_in s)) Accepted
 
-unfoldable pub written_in : List ℕ → Written
-written_in s = pick (eqb (get_or s 0 0) 3) (Written.Refused (refusal_in s)) (Done (get32 s 8) (get32 s 12))
+unfoldable pub written_in : List ℕ → Result Written Refusal
+written_in s = pick (eqb (get_or s 0 0) 3) (Err (refusal_in s)) (Done (get32 s 8) (get32 s 12))
 
 unfoldable pub answer_in : List ℕ → Answer
 answer_in s =
@@ -39,12 +37,12 @@ abbrev pub Told : ℕ → Type 0
 Told n = n < 4294967296
 
 abbrev pub CheckedTold : Checked → Type 0
-CheckedTold Accepted = Unit {0}
-CheckedTold (Checked.Refused r) = Told r.place
+CheckedTold (Ok _) = Unit {0}
+CheckedTold (Err r) = Told r.place
 
-abbrev pub WrittenTold : Written → Type 0
-WrittenTold (Done n f) = Told n
-WrittenTold (Written.Refused r) = Told r.place
+abbrev pub WrittenTold : Result Written Refusal → Type 0
+WrittenTold (Ok w) = Told w.count
+WrittenTold (Err r) = Told r.place
 
 -- an answer of a call: sixteen words, and a refused one tells nothing else
 abbrev pub AnswerTold : Outcome → Answer → Type 0
@@ -54,5 +52,5 @@ AnswerTold (Outcome.Refused r) a = Told r.place × (a ≡ refused_answer r)
 
 pub record ReadBack (s : List ℕ) : Type 0 where
   pub checked : (c : Checked) → CheckedTold c → checked_in (replied (checked_reply c) s) ≡ c
-  pub written : (w : Written) → WrittenTold w → written_in (replied (written_reply w) s) ≡ w
+  pub written : (w : Result Written Refusal) → WrittenTold w → written_in (replied (written_reply w) s) ≡ w
   pub answer : (a : Answer) → AnswerTold a.outcome a → answer_in (replied (answer_reply a) s) ≡ a

@@ -1,12 +1,10 @@
 -- Replies: an answer as 48 bytes, for callers in other languages.
 -- Byte 0: 0 accepted or done, 1 ended, 2 open, 3 refused; byte 1 the refusal's number; 2 and 3 zero; 4 to 7 its place; 8 to 11 a number of
 -- bytes or cells, or the instant; 12 to 15 the finish cell, or the count; then the sixteen words. Assumes nothing: definitions.
-use Rattle.std.specs.Prelude.{Bool, List, ℕ, ◌+◌, ◌*◌, ◌%◌, length, get_or, replicate, leb}
+use Rattle.model.specs.Refusals.{Checked}
+use Rattle.std.specs.Prelude.{Bool, List, ℕ, ◌+◌, ◌*◌, ◌%◌, length, get_or, replicate, leb, Result, Ok, Err}
 use Rattle.model.specs.declared.Refusal.{Refusal}
-use Rattle.model.specs.declared.Checked.{Checked}
-use Rattle.model.specs.declared.Checked.TheVariants.{Accepted}
 use Rattle.model.specs.declared.Written.{Written}
-use Rattle.model.specs.declared.Written.TheVariants.{Done}
 use Rattle.model.specs.declared.Outcome.{Outcome}
 use Rattle.model.specs.declared.Outcome.TheVariants.{Ended, Open}
 use Rattle.model.specs.declared.Answer.{Answer}
@@ -21,12 +19,12 @@ abbrev pub refused_reply : Refusal → Reply
 refused_reply r = record { kind = 3; number = r.number; place = r.place % 4294967296; first = 0; second = 0; words = replicate 16 0 }
 
 unfoldable pub checked_reply : Checked → Reply
-checked_reply Accepted = plain 0 0 0 (replicate 16 0)
-checked_reply (Checked.Refused r) = refused_reply r
+checked_reply (Ok _) = plain 0 0 0 (replicate 16 0)
+checked_reply (Err r) = refused_reply r
 
-unfoldable pub written_reply : Written → Reply
-written_reply (Done n f) = plain 0 (n % 4294967296) f (replicate 16 0)
-written_reply (Written.Refused r) = refused_reply r
+unfoldable pub written_reply : Result Written Refusal → Reply
+written_reply (Ok w) = plain 0 (w.count % 4294967296) w.finish (replicate 16 0)
+written_reply (Err r) = refused_reply r
 
 unfoldable pub outcome_reply : Outcome → ℕ → ℕ → List ℕ → Reply
 outcome_reply Ended t n words = plain 1 t n words

@@ -9,6 +9,7 @@ use model::{Answer, Checked, Outcome, Refusal, Written};
 
 pub const LENGTH: usize = 48;
 
+// The kind is a number, since callers in other languages read it as a byte.
 #[derive(Drop)]
 pub struct Reply {
     pub kind: u8,
@@ -49,19 +50,19 @@ pub fn of_checked(c: Checked) -> Reply
     ensures { result ≡ checked_reply c }
 {
     match c {
-        Checked::Accepted => of_numbers(0, 0, 0, [0u16; 16]),
-        Checked::Refused(r) => of_refusal(r),
+        Ok(()) => of_numbers(0, 0, 0, [0u16; 16]),
+        Err(r) => of_refusal(r),
     }
 }
 
-pub fn of_written(w: Written) -> Reply
+pub fn of_written(w: Result<Written, Refusal>) -> Reply
     ensures { result ≡ written_reply w }
 {
     match w {
-        Written::Done { count, finish } => {
+        Ok(Written { count, finish }) => {
             of_numbers(0, (count % 4294967296) as u32, finish as u32, [0u16; 16])
         }
-        Written::Refused(r) => of_refusal(r),
+        Err(r) => of_refusal(r),
     }
 }
 
@@ -77,26 +78,25 @@ pub fn of_answer(a: Answer) -> Reply
     }
 }
 
+#[tactic(auto, unfolding(model::specs::State::up_to))]
 fn put_words(reply: &mut [u8], words: [u16; 16])
     requires { 48 ≤ length reply.old }
     ensures { reply.new ≡ up_to (put_word words) 16 reply.old }
 {
-    let mut k: usize = 0;
-    while k < 16 {
-        word::put16(reply, 16 + 2 * k, words[k]);
-        k += 1;
+    for (k, w) in words.iter().enumerate() {
+        word::put16(reply, 16 + 2 * k, *w);
     }
 }
 
+#[tactic(auto, unfolding(crate::specs::Replies::replied))]
 pub fn put(reply: &mut [u8], r: Reply)
     requires { 48 ≤ length reply.old }
     ensures { reply.new ≡ replied r reply.old }
 {
-    word::put16(reply, 0, (r.kind as u16) + 256 * (r.number as u16));
+    word::put16(reply, 0, u16::from_le_bytes([r.kind, r.number]));
     word::put16(reply, 2, 0);
     word::put32(reply, 4, r.place);
     word::put32(reply, 8, r.first);
     word::put32(reply, 12, r.second);
-    let words = r.words;
-    put_words(reply, words);
+    put_words(reply, r.words);
 }

@@ -2,10 +2,8 @@
 -- checks of programs, netlists and states come in the published order. Places are 0 where the paper names none.
 -- Assumes nothing.
 use Rattle.std.specs.Prelude.{◌≡◌, refl, List, [], ◌∷◌, ◌++◌, map, ℕ, set, replicate}
-use Rattle.model.specs.declared.Checked.{Checked}
-use Rattle.model.specs.declared.Checked.TheVariants.{Accepted}
 use Rattle.model.specs.declared.Format.TheVariants.{Full, Compact}
-use Rattle.model.specs.Refusals.{refuse, first}
+use Rattle.model.specs.Refusals.{refuse, first, Checked, Accepted}
 use Rattle.model.specs.Circuit.{cell}
 use Rattle.model.specs.NetlistFile.{cell_bytes, file_of}
 use Rattle.model.specs.TimeTables.{defaults}

@@ -3,10 +3,8 @@
 -- Assumes nothing.
 use Rattle.std.specs.Prelude.{◌≡◌, refl, Bool, true, false, List, [], ◌∷◌, ◌++◌, map, ℕ, ◌+◌, ◌*◌, set, replicate}
 use Rattle.model.specs.declared.Cell.{Cell}
-use Rattle.model.specs.declared.Checked.{Checked}
-use Rattle.model.specs.declared.Checked.TheVariants.{Accepted}
 use Rattle.model.specs.declared.Format.TheVariants.{Compact}
-use Rattle.model.specs.Refusals.{refuse}
+use Rattle.model.specs.Refusals.{refuse, Checked, Accepted}
 use Rattle.model.specs.Circuit.{cell}
 use Rattle.model.specs.NetlistFile.{file_of, net_of}
 use Rattle.model.specs.State.{instant_of, flight_of, course, now_at, left_at, begin_state, step_state, continued, sound}

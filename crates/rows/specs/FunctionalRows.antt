@@ -1,13 +1,11 @@
 -- Programs with what a reference run for functional circuits answers, with refusal 28, and with their functional netlists, worked out by hand from the paper
 -- and from the wiring. Circuit and promises go by the same rules and the same wiring, and so leave them free.
 -- Assumes nothing.
-use Rattle.std.specs.Prelude.{◌≡◌, refl, Bool, true, false, List, [], ◌∷◌, ◌++◌, map, ℕ, drop, take, replicate}
+use Rattle.std.specs.Prelude.{◌≡◌, refl, List, [], ◌∷◌, ◌++◌, map, ℕ, drop, take, replicate}
 use Rattle.model.specs.declared.Answer.{Answer}
 use Rattle.model.specs.declared.Cell.{Cell}
-use Rattle.model.specs.declared.Checked.{Checked}
-use Rattle.model.specs.declared.Checked.TheVariants.{Accepted}
 use Rattle.model.specs.Word.{bit, operate}
-use Rattle.model.specs.Refusals.{refuse, first_fault}
+use Rattle.model.specs.Refusals.{refuse, first_fault, Checked, Accepted}
 use Rattle.model.specs.Program.{const, var, op, elem, Code, Stmt, ok, tick, assign, assign_elem, seq, par, ite, while, repeat, loop, exit, call, node_bytes, preorder, writes}
 use Rattle.model.specs.ProgramChecks.{added, added_fault, check_functional}
 use Rattle.model.specs.Rules.{owner, eval, put, over, kept, after, wait, chain, both, caught, whiles, repeats, loops, run}

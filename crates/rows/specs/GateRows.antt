@@ -3,9 +3,7 @@
 -- Assumes nothing.
 use Rattle.std.specs.Prelude.{◌≡◌, refl, List, [], ◌∷◌, map, ℕ, ◌*◌, eqb, length, get_or, replicate}
 use Rattle.model.specs.declared.Cell.{Cell}
-use Rattle.model.specs.declared.Checked.{Checked}
-use Rattle.model.specs.declared.Checked.TheVariants.{Accepted}
-use Rattle.model.specs.Refusals.{refuse, first}
+use Rattle.model.specs.Refusals.{refuse, first, Checked, Accepted}
 use Rattle.model.specs.Word.{pick, bit, operate, element_word, bytes16}
 use Rattle.model.specs.Program.{const, Code, ok, assign, assign_elem, seq, alone, time_in, built_in_times}
 use Rattle.model.specs.Circuit.{cell, pulses, remaining_before, remaining_step, delayed, memories, memory, element, equation, shape}

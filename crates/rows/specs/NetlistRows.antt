@@ -1,14 +1,12 @@
 -- Cells, netlists and netlist files with what their check says, worked out by hand from the paper: refusals 9 to 12 with their places, what is
 -- just allowed, one file byte for byte, and renumbering. Theorems cite the same conditions and layout, and so leave them free.
 -- Assumes nothing.
-use Rattle.std.specs.Prelude.{◌≡◌, refl, true, false, List, [], ◌∷◌, ◌++◌, map, ℕ, take, drop, set, replicate}
+use Rattle.std.specs.Prelude.{◌≡◌, refl, true, false, List, [], ◌∷◌, ◌++◌, map, ℕ, take, drop, set, replicate, Result, Err}
+use Rattle.model.specs.declared.Refusal.{Refusal}
 use Rattle.model.specs.declared.Cell.{Cell}
-use Rattle.model.specs.declared.Checked.{Checked}
-use Rattle.model.specs.declared.Checked.TheVariants.{Accepted}
 use Rattle.model.specs.declared.Written.{Written}
-use Rattle.model.specs.declared.Written.TheVariants.{Done}
 use Rattle.model.specs.Word.{bit, get16, bytes16}
-use Rattle.model.specs.Refusals.{refuse, first_fault}
+use Rattle.model.specs.Refusals.{refuse, first_fault, Checked, Accepted, Done}
 use Rattle.model.specs.Circuit.{cell, shape, control, names, memories, past_memories}
 use Rattle.model.specs.NetlistFile.{running_sum, sum_after, sum_with, cell_bytes, cell_from, cells_at, word_sum, rest_bytes, block_with, block, blocks, file_of, cells_of, file_length_wrong, sum_fault, count_wrong, pulse_wrong, all_zero, header_right, header_fault, control_in, word_in, of_array, array_in, kept, keeps, stands, placed, array_placed, cell_fault, net_check, file_check}
 use Rattle.model.specs.TimeTables.{defaults}
@@ -196,7 +194,7 @@ abbrev rest : List ℕ
 rest = drop 8 small
 
 -- compiling, reading and writing, and what they leave of a longer list
-file_calls : List (Returned Written × Returned Written)
+file_calls : List (Returned (Result Written Refusal) × Returned (Result Written Refusal))
 file_calls =
     (compile_call defaults (raw 18 1 0 ++ raw 1 0 5) (replicate 514 7), record { answer = Done 512 4; lent = small ++ (7 ∷ 7 ∷ []) })
     ∷ (read_call small (replicate 188 7), record { answer = Done 31 4; lent = take 186 rest ++ (7 ∷ 7 ∷ []) })
@@ -295,7 +293,7 @@ behind-three :
           ++ (cell 42 0 4 5 ∷ cell 43 0 5 0 ∷ cell 42 1 4 5 ∷ cell 43 0 5 0 ∷ cell 42 2 4 5 ∷ cell 43 0 5 0 ∷ cell 42 3 4 5 ∷ cell 43 0 5 0 ∷ cell 9 9 9 9 ∷ []));
     })
     × (read_cells_call (file_of 1 (front (idle 16 (arrays []))) 0) 3 (replicate 29 (cell 9 9 9 9))
-    ≡ record { answer = Written.Refused (record { number = 14; place = 0 }); lent = replicate 29 (cell 9 9 9 9) })
+    ≡ record { answer = Err (record { number = 14; place = 0 }); lent = replicate 29 (cell 9 9 9 9) })
 unfolding check_of_file rewired names placing read_cells_call
 behind-three = (refl, refl)
 

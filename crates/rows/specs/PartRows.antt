@@ -1,12 +1,10 @@
 -- Parts joined, with what is said of them and what is written, worked out by hand from the papers.
 -- Assumes nothing.
-use Rattle.std.specs.Prelude.{◌≡◌, refl, List, [], ◌∷◌, ◌++◌, map, ℕ, ◌*◌, length, replicate, set}
+use Rattle.std.specs.Prelude.{◌≡◌, refl, List, [], ◌∷◌, ◌++◌, map, ℕ, ◌*◌, length, replicate, set, Result}
+use Rattle.model.specs.declared.Refusal.{Refusal}
 use Rattle.model.specs.declared.Cell.{Cell}
-use Rattle.model.specs.declared.Checked.{Checked}
-use Rattle.model.specs.declared.Checked.TheVariants.{Accepted}
 use Rattle.model.specs.declared.Written.{Written}
-use Rattle.model.specs.declared.Written.TheVariants.{Done}
-use Rattle.model.specs.Refusals.{refuse, first, first_fault}
+use Rattle.model.specs.Refusals.{refuse, first, first_fault, Checked, Accepted, Done}
 use Rattle.model.specs.Circuit.{cell}
 use Rattle.model.specs.NetlistFile.{file_of}
 use Rattle.model.specs.Text.{same}
@@ -132,7 +130,7 @@ drawings =
     ∷ []
 
 -- whoever unfolds this unfolds all that parts are joined by
-unfoldable pub joining : List Part → List ℕ → Returned Written
+unfoldable pub joining : List Part → List ℕ → Returned (Result Written Refusal)
 unfolding check_of_program check_of_file numbering writing same whole_program parts_in own_checks nodes_up_to nodes_fault pulse_fault other_fault join_call
 joining ps lent = join_call defaults ps lent
 

@@ -1,15 +1,13 @@
 -- Programs with procedures, with what is said of them and what a reference run from words that are 0 answers, worked out by hand from the paper; and
 -- what a call's merge does, instant by instant.
 -- Assumes nothing.
-use Rattle.std.specs.Prelude.{◌≡◌, refl, Bool, true, false, List, [], ◌∷◌, ◌++◌, map, ℕ, suc, get_or, replicate, set}
+use Rattle.std.specs.Prelude.{◌≡◌, refl, Bool, true, false, List, [], ◌∷◌, map, ℕ, get_or, replicate, set}
 use Rattle.model.specs.declared.Answer.{Answer}
-use Rattle.model.specs.declared.Checked.{Checked}
-use Rattle.model.specs.declared.Checked.TheVariants.{Accepted}
 use Rattle.model.specs.declared.Format.TheVariants.{Full}
 use Rattle.model.specs.declared.Options.{Options}
 use Rattle.model.specs.Word.{bit, operate}
-use Rattle.model.specs.Refusals.{refuse}
-use Rattle.model.specs.Program.{const, var, op, Code, ok, tick, assign, seq, par, ite, while, repeat, loop, exit, call, node_bytes, preorder, preorders}
+use Rattle.model.specs.Refusals.{refuse, Checked, Accepted}
+use Rattle.model.specs.Program.{const, var, op, Code, ok, tick, assign, seq, par, ite, while, loop, exit, call, node_bytes, preorders}
 use Rattle.model.specs.Rules.{owner, eval, put, over, kept, after, wait, chain, both, caught, whiles, repeats, loops, run}
 use Rattle.model.specs.Circuit.{cell, Sig, short_return, return_step, merged_before, merged}
 use Rattle.model.specs.State.{sound}

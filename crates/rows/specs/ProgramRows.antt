@@ -3,9 +3,7 @@
 -- Calls and promises cite the same checks, and so leave them free.
 -- Assumes nothing.
 use Rattle.std.specs.Prelude.{◌≡◌, refl, List, [], ◌∷◌, ◌++◌, map, ℕ}
-use Rattle.model.specs.declared.Checked.{Checked}
-use Rattle.model.specs.declared.Checked.TheVariants.{Accepted}
-use Rattle.model.specs.Refusals.{refuse}
+use Rattle.model.specs.Refusals.{refuse, Checked, Accepted}
 use Rattle.model.specs.Program.{node_bytes, Expr, const, var, compl, op, elem, Code, ok, tick, assign, assign_elem, seq, par, ite, while, repeat, loop, exit, preorder}
 use Rattle.model.specs.TimeTables.{defaults}
 use Rattle.model.specs.Calls.{check_call}

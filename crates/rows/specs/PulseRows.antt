@@ -4,12 +4,10 @@
 use Rattle.std.specs.Prelude.{◌≡◌, refl, Bool, true, false, List, [], ◌∷◌, ◌++◌, map, ℕ, suc, ◌+◌, ◌-◌, ◌*◌, eqb, get_or, set, take, drop, replicate}
 use Prim.Native.String.{String}
 use Rattle.model.specs.declared.Cell.{Cell}
-use Rattle.model.specs.declared.Checked.{Checked}
-use Rattle.model.specs.declared.Checked.TheVariants.{Accepted}
 use Rattle.model.specs.declared.Format.TheVariants.{Full, Compact}
 use Rattle.model.specs.Ascii.{ascii}
 use Rattle.model.specs.Word.{bit}
-use Rattle.model.specs.Refusals.{refuse, first}
+use Rattle.model.specs.Refusals.{refuse, first, Checked, Accepted}
 use Rattle.model.specs.Program.{const, Code, tick, assign, assign_elem, seq, loop, exit}
 use Rattle.model.specs.Circuit.{cell, Netlist, Sig, high, Step, remaining_step, remaining_before, pulses, short_merge, long_merge, short_return, long_return, merge_step, return_step, merged_before, merged, step_of}
 use Rattle.model.specs.Numbering.{netlist}

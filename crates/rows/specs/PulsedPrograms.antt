@@ -4,13 +4,11 @@
 use Rattle.std.specs.Prelude.{◌≡◌, refl, List, [], ◌∷◌, map, ℕ, replicate}
 use Prim.Native.String.{String}
 use Rattle.model.specs.declared.Answer.{Answer}
-use Rattle.model.specs.declared.Checked.{Checked}
-use Rattle.model.specs.declared.Checked.TheVariants.{Accepted}
 use Rattle.model.specs.declared.Options.{Options}
 use Rattle.model.specs.declared.Outcome.TheVariants.{Ended, Open}
 use Rattle.model.specs.Ascii.{ascii}
 use Rattle.model.specs.Word.{bit, operate, element_word, get16}
-use Rattle.model.specs.Refusals.{refuse, first}
+use Rattle.model.specs.Refusals.{refuse, first, Checked, Accepted}
 use Rattle.model.specs.Program.{Expr, const, var, op, elem, Code, Stmt, ok, tick, assign, assign_elem, seq, par, ite, while, repeat, loop, exit, call, time, gap, least, built_in_times, time_in, node_bytes, preorders}
 use Rattle.model.specs.Rules.{imperative, owner, eval, put, over, kept, after, wait, chain, both, caught, whiles, repeats, loops, run, shows_at, due}
 use Rattle.model.specs.NetlistFile.{word_sum}

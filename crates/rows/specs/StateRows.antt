@@ -3,10 +3,9 @@
 -- Assumes nothing.
 use Rattle.std.specs.Prelude.{◌≡◌, refl, Bool, true, false, List, [], ◌∷◌, ◌++◌, map, ℕ, ◌+◌, ◌*◌, set, replicate}
 use Rattle.model.specs.declared.Cell.{Cell}
-use Rattle.model.specs.declared.Checked.TheVariants.{Accepted}
 use Rattle.model.specs.declared.Format.{Format}
 use Rattle.model.specs.declared.Format.TheVariants.{Full}
-use Rattle.model.specs.Refusals.{first_fault}
+use Rattle.model.specs.Refusals.{first_fault, Accepted}
 use Rattle.model.specs.Word.{operate, put16, get32, put32}
 use Rattle.model.specs.Circuit.{memory_words, cell, Netlist, merges, remaining_step, short_merge, long_merge, merge_step, short_return, long_return, return_step}
 use Rattle.model.specs.State.{up_to, shifted_in, ones, in_flight, flight_in, word_bytes, Course, course, held_at, line_bit, taken_in, remaining_byte, next_value, aged, stored, shown, holding, settle, counted, evaluate, begin_state, step_state, crowded, crowding, continued, words_in, line_sound, cell_sound, cells_sound, sound}

@@ -1,10 +1,8 @@
 -- Tables of operator times with what their check says, worked out by hand from paper 02, S-4 and S-5: refusals 19 to 21 with their places, what is just
 -- allowed, and what a program's check says under a table. Assumes nothing.
 use Rattle.std.specs.Prelude.{◌≡◌, refl, true, false, List, [], ◌∷◌, ◌++◌, map, ℕ, set, replicate}
-use Rattle.model.specs.declared.Checked.{Checked}
-use Rattle.model.specs.declared.Checked.TheVariants.{Accepted}
 use Rattle.model.specs.Word.{bytes16}
-use Rattle.model.specs.Refusals.{refuse, first_fault}
+use Rattle.model.specs.Refusals.{refuse, first_fault, Checked, Accepted}
 use Rattle.model.specs.Program.{built_in_times}
 use Rattle.model.specs.NetlistFile.{word_sum, block_with}
 use Rattle.model.specs.TimeTables.{byte_wrong, table_fault, table_sum_wrong, times_in, given, given_if, verdict_of, times_of, beside, load, defaults}

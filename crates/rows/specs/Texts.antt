@@ -1,16 +1,14 @@
 -- Texts written by hand, with the statement that each is, or with its refusal: every kind of statement and operator, groupings, limits of
 -- numbers, and places. Then what hubrun prints and hubtext writes. Rows of tables, computed; `ascii` turns a quoted text into its bytes.
 -- Assumes nothing.
-use Rattle.std.specs.Prelude.{◌≡◌, refl, List, [], ◌∷◌, ◌++◌, map, ℕ, replicate}
+use Rattle.std.specs.Prelude.{◌≡◌, refl, List, [], ◌∷◌, ◌++◌, map, ℕ, replicate, Err, Result}
 use Prim.Native.Char.{code}
 use Prim.Native.String.{String}
-use Rattle.model.specs.declared.Checked.{Checked}
-use Rattle.model.specs.declared.Checked.TheVariants.{Accepted}
 use Rattle.model.specs.declared.Outcome.TheVariants.{Ended, Open}
+use Rattle.model.specs.declared.Refusal.{Refusal}
 use Rattle.model.specs.declared.Written.{Written}
-use Rattle.model.specs.declared.Written.TheVariants.{Done}
 use Rattle.model.specs.declared.Answer.{Answer}
-use Rattle.model.specs.Refusals.{refuse, first}
+use Rattle.model.specs.Refusals.{refuse, first, Checked, Accepted, Done}
 use Rattle.model.specs.Program.{const, var, compl, op, Code, ok, tick, assign, seq, par, ite, while, repeat, preorder_e, preorder}
 use Rattle.model.specs.Ascii.{ascii}
 use Rattle.model.specs.Text.{blank, digit, letter, run_length, all_digits, value_from, is_number, is_name, same, word_code, two_code, one_code, limit_after, run_token, token_at, size_at, words_from, outside}
@@ -140,10 +138,10 @@ outputs =
     ∷ []
 
 -- reading the first of them: its twelve bytes want twelve
-rooms : List (ℕ × Written × List ℕ)
+rooms : List (ℕ × Result Written Refusal × List ℕ)
 rooms =
     (12, Done 12 0, 19 ∷ 0 ∷ 0 ∷ 0 ∷ 16 ∷ 0 ∷ 0 ∷ 0 ∷ 17 ∷ 3 ∷ 0 ∷ 0 ∷ [])
-    ∷ (11, Written.Refused (record { number = 14; place = 0 }), replicate 11 7)
+    ∷ (11, Err (record { number = 14; place = 0 }), replicate 11 7)
     ∷ []
 
 rooms-right : map (λ r. read_text_call defaults (ascii "ok; tick 3") (replicate r.0 7)) rooms ≡ map (λ r. record { answer = r.1; lent = r.2 }) rooms

@@ -1,5 +1,6 @@
 -- The answer of a run, that of the main program's run, and that of a call by what the checks say.
 -- Assumes nothing.
+use Rattle.std.specs.Prelude.{Err}
 use mathlib.Core.Path.{◌≡◌, refl, sym, ◌∙◌, ap, ap₂}
 use mathlib.Core.Bool.{Bool, true, false}
 use mathlib.Core.List.{List, [], ◌∷◌}
@@ -10,16 +11,14 @@ use lib.ListN.{length, get_or, replicate}
 use borrow.Author.Tests.{lt-ltb, le-ltb}
 use Rattle.model.specs.declared.Refusal.{Refusal}
 use Rattle.model.specs.declared.Options.{Options}
-use Rattle.model.specs.declared.Checked.{Checked}
-use Rattle.model.specs.declared.Checked.TheVariants.{Accepted, Refused}
 use Rattle.model.specs.declared.Answer.{Answer}
-use Rattle.model.specs.declared.Outcome.TheVariants.{Ended, Open}
-use Rattle.model.specs.Program.{program_of}
+use Rattle.model.specs.declared.Outcome.TheVariants as outcome
+use Rattle.model.specs.Program.{program_of, time_in}
 use Rattle.model.specs.Procedures.{meaning}
 use Rattle.model.specs.TimeTables.{given_check}
 use Rattle.model.specs.ProgramChecks.{program_with, check_of, check_functional}
-use Rattle.model.specs.Rules.{Costs, imperative, functional, run}
-use Rattle.model.specs.Refusals.{refuse_if, first}
+use Rattle.model.specs.Rules.{Costs, ended, imperative, functional, run}
+use Rattle.model.specs.Refusals.{refuse_if, first, Checked, Accepted}
 use Rattle.model.specs.Calls.{word_at, listed, refused_answer, reference_answer, answering, short, check_call, over_budget, reference_call}
 use Rattle.model.specs.FunctionalCalls.{check_functional_call, reference_functional_call}
 use Rattle.laws.specs.Refusals.Laws.{all-accept, first_two}
@@ -28,41 +27,36 @@ use Rattle.laws.specs.Program.Passed.{accepted}
 use Rattle.laws.specs.Program.Admitted.{program-admitted, meaning-formed, meaning-timed, meaning-separate}
 use Rattle.laws.specs.Functional.Accepted.{table_alone, also-accepted}
 use Rattle.program.specs.declared.Scanned.{Scanned}
-use Rattle.program.specs.Shape.{Scans, Functionally, scanned-laid}
+use Rattle.program.specs.Shape.{AllShaped, scanned-laid}
 use Rattle.rules.specs.declared.ways.Ran.{Ran}
-use Rattle.rules.specs.Ran.{store_of, run_of, Stands, main_answer, Ready}
+use Rattle.rules.specs.declared.ways.Ran.TheVariants.{Ended, Left, Unfinished}
+use Rattle.rules.specs.Ran.{store_of, run_of, Unended, Stands, main_answer, Ready}
 use Rattle.rules.proofs.Procedures.{trees-enough}
 use Rattle.rules.proofs.Stores.{listed_at}
 use Rattle.rules.proofs.Agree.{same_answer}
-use Rattle.rules.proofs.Runs.{flagged, run-ended, unended}
 
 -- Runs ---------------------------------------------------------------------------------------------------------------------------------
 
-module _ (n : ℕ) (r : Ran) (w : List ℕ) where
-  pub answer-ended : (ws : List ℕ) → ws ≡ listed (store_of w) 0 16 → r.ended ≡ true
-      → record { outcome = Ended; instant = r.time; count = r.time + 1; words = ws } ≡ reference_answer n (run_of r w)
+module _ (n : ℕ) (w : List ℕ) where
+  pub answer-ended : (t : ℕ) (ws : List ℕ) → ws ≡ listed (store_of w) 0 16
+      → record { outcome = outcome.Ended; instant = t; count = t + 1; words = ws } ≡ reference_answer n (ended t (store_of w))
   unfolding reference_answer
-  answer-ended ws ew e =
-      ap (λ (ws : List ℕ). record { outcome = Ended; instant = r.time; count = r.time + 1; words = ws }) ew ∙ sym (ap (reference_answer n) (run-ended r w e))
+  answer-ended t ws ew = ap (λ (ws : List ℕ). record { outcome = outcome.Ended; instant = t; count = t + 1; words = ws }) ew
 
-  pub answer-open : r.ended ≡ false
-      → record { outcome = Open; instant = n; count = n + 1; words = replicate 16 0 } ≡ reference_answer n (run_of r w)
+  pub answer-open : (r : Ran) → Unended r → record { outcome = outcome.Open; instant = n; count = n + 1; words = replicate 16 0 } ≡ reference_answer n (run_of r w)
   unfolding reference_answer
-  answer-open e = sym (ap (reference_answer n) (unended r w e) ∙ go r.left)
-    where
-      go : (l : Bool) → reference_answer n (flagged false l r.time (store_of w)) ≡ record { outcome = Open; instant = n; count = n + 1; words = replicate 16 0 }
-      go true = refl
-      go false = refl
+  answer-open (Ended t) u = absurd (u t refl)
+  answer-open (Left t) u = refl
+  answer-open Unfinished u = refl
 
 -- The main program ---------------------------------------------------------------------------------------------------------------------
 
 -- of an accepted program it is ready to be run
-pub main-ready : (options : Options) (s : List ℕ) (r : Scanned) → Scans options s r → r.checked ≡ Accepted
+pub main-ready : (options : Options) (s : List ℕ) (r : Scanned) → check_call options s ≡ Accepted → AllShaped (time_in options.times) s r
     → Ready s r.ends options.procedures (meaning (program_of 1 options.procedures s))
 unfolding meaning program_of
-main-ready options s r S e =
-    let a = sym S.checked ∙ e in
-    let L = scanned-laid options s r S e in
+main-ready options s r a S =
+    let L = scanned-laid options s r a S in
     let A = program-admitted options s a in
     let W = program_with options s in
     record {
@@ -109,9 +103,9 @@ module _ (options : Options) (s bytes : List ℕ) (n : ℕ) where
   unfolding check_call reference_call
   call_by c e = sym (answering_by (given_check options) (check_of options s) c (over_budget n ∷ short (length bytes) 544 ∷ []) _ e)
 
-  pub call-refused : (r : Refusal) → check_call options s ≡ Refused r → refused_answer r ≡ reference_call options s bytes n
+  pub call-refused : (r : Refusal) → check_call options s ≡ Err r → refused_answer r ≡ reference_call options s bytes n
   unfolding answering
-  call-refused r e = call_by (Refused r) e
+  call-refused r e = call_by (Err r) e
 
   pub call-runs : check_call options s ≡ Accepted → main_answer (imperative options.pulse) options.procedures s bytes n ≡ reference_call options s bytes n
   unfolding main_answer meaning program_of
@@ -123,18 +117,17 @@ module _ (options : Options) (s bytes : List ℕ) (n : ℕ) where
   unfolding check_functional_call reference_functional_call
   functional-by c e = sym (answering_by options.checked (check_functional options s) c (over_budget n ∷ short (length bytes) 544 ∷ []) _ e)
 
-  pub functional-refused : (r : Refusal) → check_functional_call options s ≡ Refused r → refused_answer r ≡ reference_functional_call options s bytes n
+  pub functional-refused : (r : Refusal) → check_functional_call options s ≡ Err r → refused_answer r ≡ reference_functional_call options s bytes n
   unfolding answering
-  functional-refused r e = functional-by (Refused r) e
+  functional-refused r e = functional-by (Err r) e
 
   pub functional-runs : check_functional_call options s ≡ Accepted → main_answer functional 0 s bytes n ≡ reference_functional_call options s bytes n
   unfolding main_answer
   functional-runs e = functional-by Accepted e
 
 -- what is accepted for a functional circuit is accepted with its table alone
-pub functional-scans : (options : Options) (s : List ℕ) (r : Scanned) → Functionally options s r → r.checked ≡ Accepted → Scans (table_alone options) s r
+pub functional-accepted : (options : Options) (s : List ℕ) → check_functional_call options s ≡ Accepted → check_call (table_alone options) s ≡ Accepted
 unfolding check_functional_call
-functional-scans options s r F e =
-    let a = sym F.checked ∙ e in
+functional-accepted options s a =
     let each = all-accept (options.checked ∷ check_functional options s ∷ []) a in
-    record { checked = e ∙ sym (also-accepted options s (each 0) (each 1)); shaped = λ h. F.shaped a }
+    also-accepted options s (each 0) (each 1)

@@ -1,7 +1,6 @@
 -- The run of a loop, one turn further; and a loop on its way, from the whole budget to what is left of it.
 -- Assumes that a loop's delay is at least 1, where it goes round.
 use mathlib.Core.Path.{◌≡◌, refl, sym, ◌∙◌, ap}
-use mathlib.Core.Bool.{Bool, true, false}
 use mathlib.Core.List.{List}
 use Prim.Native.Nat.{ℕ, zero, suc, ◌+◌, ◌-◌, ◌≤◌, ◌<◌}
 use native.Mathlib.Omega.{arith}
@@ -14,8 +13,9 @@ use Rattle.model.specs.Rules.{Costs, postponed, Store, at_end, at_exit, Run, don
 use Rattle.laws.specs.Refusals.Laws.{by_bool}
 use Rattle.laws.specs.Rules.Laws.{extended-is, Body, wait-is, wait-short, whiles-stop, whiles-more, again, repeats-is, again-more, again-stop, round, loops_is, round_is}
 use Rattle.rules.specs.declared.ways.Ran.{Ran}
-use Rattle.rules.specs.Ran.{store_of, run_of, Stands}
-use Rattle.rules.proofs.Runs.{flagged, run-ended, unended, chain-unended, stands-still}
+use Rattle.rules.specs.declared.ways.Ran.TheVariants.{Ended, Left, Unfinished}
+use Rattle.rules.specs.Ran.{store_of, run_of, time_of, Unended, Stands}
+use Rattle.rules.proofs.Runs.{chain-unended, stands-still}
 
 after-after : (a b : ℕ) (r : Run) → after a (after b r) ≡ after (a + b) r
 unfolding after
@@ -96,18 +96,16 @@ postponed-is zero body k σ =
     sym (wait-is 0 k (λ k₁. body k₁ σ) (omega arith) ∙ after-zero (body (k - 0) σ) ∙ ap (λ (m : ℕ). body m σ) z)
 postponed-is (suc n) body k σ = refl
 
-chain-later : (l : ℕ) (r : Ran) (w : List ℕ) → r.ended ≡ true → (c : ℕ → Store → Run) → chain (after l (run_of r w)) c ≡ after (l + r.time) (c (l + r.time) (store_of w))
+chain-later : (l t : ℕ) (w : List ℕ) (c : ℕ → Store → Run) → chain (after l (ended t (store_of w))) c ≡ after (l + t) (c (l + t) (store_of w))
 unfolding chain after
-chain-later l r w f c = ap (λ (q : Run). chain (after l q) c) (run-ended r w f)
+chain-later l t w c = refl
 
 -- nothing goes on after one that has not ended
-chain-later-unended : (l : ℕ) (r : Ran) (w : List ℕ) → r.ended ≡ false → (c : ℕ → Store → Run) → chain (after l (run_of r w)) c ≡ after l (run_of r w)
+chain-later-unended : (l : ℕ) (r : Ran) (w : List ℕ) → Unended r → (c : ℕ → Store → Run) → chain (after l (run_of r w)) c ≡ after l (run_of r w)
 unfolding chain after
-chain-later-unended l r w f c = rw (unended r w f) (go r.left)
-  where
-    go : (b : Bool) → chain (after l (flagged false b r.time (store_of w))) c ≡ after l (flagged false b r.time (store_of w))
-    go true = refl
-    go false = refl
+chain-later-unended l (Ended t) w n c = absurd (n t refl)
+chain-later-unended l (Left t) w n c = refl
+chain-later-unended l Unfinished w n c = refl
 
 -- a while's test takes its delay and, before it, what latching does
 while-is : (κ : Costs) (d : ℕ) (e : Expr) (P : Stmt) (k : ℕ) (σ : Store)
@@ -135,21 +133,21 @@ module _ (κ : Costs) (d : ℕ) (e : Expr) (P : Stmt) (k : ℕ) (σ : Store) whe
     pub while-end : v ≡ 0 → run κ k (while d e P) σ ≡ after (d + κ.latch) (ended 0 σ)
     while-end z = while-is κ d e P k σ ∙ whiles-stop body test e k k σ (eq-eqb _ 0 (sym ev ∙ z)) ∙ wait-is test k _ l
 
-    module _ (n : v ≡ 0 → ⊥) (r : Ran) (w : List ℕ) (R : Stands (k - (d + κ.latch)) (run κ (k - (d + κ.latch)) P σ) r w) where
-      while-turn : run κ k (while d e P) σ ≡ after test (chain (run_of r w) while_rest)
-      while-turn =
+    module _ (n : v ≡ 0 → ⊥) (w : List ℕ) where
+      while-turn : (r : Ran) → Stands (k - (d + κ.latch)) (run κ (k - (d + κ.latch)) P σ) r w → run κ k (while d e P) σ ≡ after test (chain (run_of r w) while_rest)
+      while-turn r R =
           while-is κ d e P k σ ∙ whiles-more body test e k k σ (ne_eqb _ 0 (λ z. n (ev ∙ z))) ∙ wait-is test k _ l
           ∙ ap (λ (q : Run). after test (chain q while_rest)) (sym R.is)
 
-      pub while-unended : r.ended ≡ false → run κ k (while d e P) σ ≡ after (d + κ.latch) (run_of r w)
-      while-unended f = while-turn ∙ ap (after test) (chain-unended r w f while_rest)
+      pub while-unended : (r : Ran) → Stands (k - (d + κ.latch)) (run κ (k - (d + κ.latch)) P σ) r w → Unended r
+          → run κ k (while d e P) σ ≡ after (d + κ.latch) (run_of r w)
+      while-unended r R f = while-turn r R ∙ ap (after test) (chain-unended r w f while_rest)
 
-      pub while-on : r.ended ≡ true → 1 ≤ d
-          → run κ k (while d e P) σ ≡ after (d + κ.latch + r.time) (run κ (k - (d + κ.latch) - r.time) (while d e P) (store_of w))
+      pub while-on : (t : ℕ) → Stands (k - (d + κ.latch)) (run κ (k - (d + κ.latch)) P σ) (Ended t) w → 1 ≤ d
+          → run κ k (while d e P) σ ≡ after (d + κ.latch + t) (run κ (k - (d + κ.latch) - t) (while d e P) (store_of w))
       unfolding chain
-      while-on f one =
-          let t = r.time in
-          while-turn ∙ ap (λ (q : Run). after test (chain q while_rest)) (run-ended r w f) ∙ after-after test t _
+      while-on t R one =
+          while-turn (Ended t) R ∙ after-after test t _
           ∙ ap (after (test + t)) (whiles-enough body test e (omega arith) k (suc (k - test - t)) (k - test - t) (store_of w) (omega arith) (omega arith))
           ∙ ap (after (test + t)) (sym (while-is κ d e P (k - test - t) (store_of w)))
 
@@ -170,69 +168,68 @@ module _ (κ : Costs) (d : ℕ) (e : Expr) (P : Stmt) (k : ℕ) (σ : Store) whe
   unfolding chain
   repeat-late l = repeat-is ∙ ap (λ (q : Run). chain q repeat_rest) (wait-short κ.latch k _ l)
 
-  -- the turn r, and where it ended the test, whose word is v
-  module _ (h : κ.latch ≤ k) (r : Ran) (w : List ℕ) (R : Stands (k - κ.latch) (run κ (k - κ.latch) P σ) r w) where
-    repeat-turn : run κ k (repeat d e P) σ ≡ chain (after κ.latch (run_of r w)) repeat_rest
-    repeat-turn = repeat-is ∙ ap (λ (q : Run). chain q repeat_rest) (wait-is κ.latch k _ h ∙ ap (after κ.latch) (sym R.is))
+  module _ (h : κ.latch ≤ k) (w : List ℕ) where
+    repeat-turn : (r : Ran) → Stands (k - κ.latch) (run κ (k - κ.latch) P σ) r w → run κ k (repeat d e P) σ ≡ chain (after κ.latch (run_of r w)) repeat_rest
+    repeat-turn r R = repeat-is ∙ ap (λ (q : Run). chain q repeat_rest) (wait-is κ.latch k _ h ∙ ap (after κ.latch) (sym R.is))
 
-    pub repeat-unended : r.ended ≡ false → run κ k (repeat d e P) σ ≡ after κ.latch (run_of r w)
-    repeat-unended f = repeat-turn ∙ chain-later-unended κ.latch r w f repeat_rest
+    pub repeat-unended : (r : Ran) → Stands (k - κ.latch) (run κ (k - κ.latch) P σ) r w → Unended r → run κ k (repeat d e P) σ ≡ after κ.latch (run_of r w)
+    repeat-unended r R f = repeat-turn r R ∙ chain-later-unended κ.latch r w f repeat_rest
 
-    module _ (f : r.ended ≡ true) where
-      repeat-turned : run κ k (repeat d e P) σ ≡ after (κ.latch + r.time) (again turned d e k (k - κ.latch - r.time) (store_of w))
+    -- the turn ended after t, and then the test, whose word is v
+    module _ (t : ℕ) (R : Stands (k - κ.latch) (run κ (k - κ.latch) P σ) (Ended t) w) where
+      repeat-turned : run κ k (repeat d e P) σ ≡ after (κ.latch + t) (again turned d e k (k - κ.latch - t) (store_of w))
       repeat-turned =
-          let same : k - (κ.latch + r.time) ≡ k - κ.latch - r.time = omega arith in
-          repeat-turn ∙ chain-later κ.latch r w f repeat_rest
-          ∙ ap (λ (m : ℕ). after (κ.latch + r.time) (again turned d e k m (store_of w))) same
+          let same : k - (κ.latch + t) ≡ k - κ.latch - t = omega arith in
+          repeat-turn (Ended t) R ∙ chain-later κ.latch t w repeat_rest
+          ∙ ap (λ (m : ℕ). after (κ.latch + t) (again turned d e k m (store_of w))) same
 
-      pub repeat-out : k - κ.latch - r.time < d → run κ k (repeat d e P) σ ≡ still
+      pub repeat-out : k - κ.latch - t < d → run κ k (repeat d e P) σ ≡ still
       unfolding again after
-      repeat-out l = repeat-turned ∙ ap (after (κ.latch + r.time)) (wait-short d (k - κ.latch - r.time) _ l)
+      repeat-out l = repeat-turned ∙ ap (after (κ.latch + t)) (wait-short d (k - κ.latch - t) _ l)
 
-      module _ (l : d ≤ k - κ.latch - r.time) (v : ℕ) (ev : v ≡ eval e (store_of w)) where
-        pub repeat-end : (v ≡ 0 → ⊥) → run κ k (repeat d e P) σ ≡ after (κ.latch + r.time + d) (ended 0 (store_of w))
+      module _ (l : d ≤ k - κ.latch - t) (v : ℕ) (ev : v ≡ eval e (store_of w)) where
+        pub repeat-end : (v ≡ 0 → ⊥) → run κ k (repeat d e P) σ ≡ after (κ.latch + t + d) (ended 0 (store_of w))
         repeat-end n =
-            let t = κ.latch + r.time in
-            let m = k - κ.latch - r.time in
-            repeat-turned ∙ ap (after t) (again-stop turned d e k m _ (ne_eqb _ 0 (λ z. n (ev ∙ z))) ∙ wait-is d m _ l) ∙ after-after t d _
+            let u = κ.latch + t in
+            let m = k - κ.latch - t in
+            repeat-turned ∙ ap (after u) (again-stop turned d e k m _ (ne_eqb _ 0 (λ z. n (ev ∙ z))) ∙ wait-is d m _ l) ∙ after-after u d _
 
         pub repeat-on : v ≡ 0 → 1 ≤ d
-            → run κ k (repeat d e P) σ ≡ after (κ.latch + r.time + d) (run κ (k - κ.latch - r.time - d) (repeat d e P) (store_of w))
+            → run κ k (repeat d e P) σ ≡ after (κ.latch + t + d) (run κ (k - κ.latch - t - d) (repeat d e P) (store_of w))
         unfolding run
         repeat-on z one =
-            let t = κ.latch + r.time in
-            let m = k - κ.latch - r.time in
-            repeat-turned ∙ ap (after t) (again-more turned d e k m _ (eq-eqb _ 0 (sym ev ∙ z)) ∙ wait-is d m _ l) ∙ after-after t d _
-            ∙ ap (after (t + d)) (repeats-enough turned d e one k (suc (m - d)) (m - d) (store_of w) (omega arith) (omega arith))
+            let u = κ.latch + t in
+            let m = k - κ.latch - t in
+            repeat-turned ∙ ap (after u) (again-more turned d e k m _ (eq-eqb _ 0 (sym ev ∙ z)) ∙ wait-is d m _ l) ∙ after-after u d _
+            ∙ ap (after (u + d)) (repeats-enough turned d e one k (suc (m - d)) (m - d) (store_of w) (omega arith) (omega arith))
 
--- a loop's turn r
-module _ (κ : Costs) (d : ℕ) (P : Stmt) (k : ℕ) (σ : Store) (r : Ran) (w : List ℕ) (R : Stands k (run κ k P σ) r w) where
+-- a loop's turn
+module _ (κ : Costs) (d : ℕ) (P : Stmt) (k : ℕ) (σ : Store) (w : List ℕ) where
   abbrev turns : Body
   turns k₁ σ₁ = run κ k₁ P σ₁
 
   abbrev loop_rest : ℕ → Store → Run
   loop_rest t σ₁ = round turns d k (k - t) σ₁
 
-  loop-turn : run κ k (loop d P) σ ≡ caught (chain (run_of r w) loop_rest)
+  loop-turn : (r : Ran) → Stands k (run κ k P σ) r w → run κ k (loop d P) σ ≡ caught (chain (run_of r w) loop_rest)
   unfolding run
-  loop-turn = ap caught (loops_is turns d k k σ ∙ ap (λ (q : Run). chain q loop_rest) (sym R.is))
+  loop-turn r R = ap caught (loops_is turns d k k σ ∙ ap (λ (q : Run). chain q loop_rest) (sym R.is))
 
-  pub loop-unended : r.ended ≡ false → run κ k (loop d P) σ ≡ caught (run_of r w)
-  loop-unended f = loop-turn ∙ ap caught (chain-unended r w f loop_rest)
+  pub loop-unended : (r : Ran) → Stands k (run κ k P σ) r w → Unended r → run κ k (loop d P) σ ≡ caught (run_of r w)
+  loop-unended r R f = loop-turn r R ∙ ap caught (chain-unended r w f loop_rest)
 
-  module _ (f : r.ended ≡ true) where
-    loop-turned : run κ k (loop d P) σ ≡ caught (after r.time (round turns d k (k - r.time) (store_of w)))
+  module _ (t : ℕ) (R : Stands k (run κ k P σ) (Ended t) w) where
+    loop-turned : run κ k (loop d P) σ ≡ caught (after t (round turns d k (k - t) (store_of w)))
     unfolding chain
-    loop-turned = loop-turn ∙ ap (λ (q : Run). caught (chain q loop_rest)) (run-ended r w f)
+    loop-turned = loop-turn (Ended t) R
 
-    pub loop-out : k - r.time < d → run κ k (loop d P) σ ≡ still
+    pub loop-out : k - t < d → run κ k (loop d P) σ ≡ still
     unfolding after caught
-    loop-out l = loop-turned ∙ ap (λ (q : Run). caught (after r.time q)) (round_is turns d k (k - r.time) _ ∙ wait-short d (k - r.time) _ l)
+    loop-out l = loop-turned ∙ ap (λ (q : Run). caught (after t q)) (round_is turns d k (k - t) _ ∙ wait-short d (k - t) _ l)
 
-    pub loop-on : d ≤ k - r.time → 1 ≤ d → run κ k (loop d P) σ ≡ after (r.time + d) (run κ (k - r.time - d) (loop d P) (store_of w))
+    pub loop-on : d ≤ k - t → 1 ≤ d → run κ k (loop d P) σ ≡ after (t + d) (run κ (k - t - d) (loop d P) (store_of w))
     unfolding run
     loop-on l one =
-        let t = r.time in
         loop-turned
         ∙ ap caught (ap (after t) (round_is turns d k (k - t) _ ∙ wait-is d (k - t) _ l) ∙ after-after t d _)
         ∙ caught-after (t + d) _
@@ -251,13 +248,13 @@ going_start B X =
     record { within = omega arith; is = sym (after-zero X) ∙ ap (λ (t : ℕ). after t X) e }
 
 module _ {B l : ℕ} {X Y : Run} (G : Going B l X Y) where
-  pub going-still : {r : Ran} {w : List ℕ} → Y ≡ still → Stands 0 still r w → Stands B X r w
+  pub going-still : (w : List ℕ) → Y ≡ still → Stands B X Unfinished w
   unfolding after
-  going-still e S = stands-still S (G.is ∙ ap (after (B - l)) e)
+  going-still w e = stands-still (G.is ∙ ap (after (B - l)) e)
 
   -- a turn q that has not ended, u instants from here, is the last
-  pub going-unended : (u : ℕ) (q : Ran) (w : List ℕ) → Y ≡ after u (run_of q w) → (t : ℕ) → t + l ≡ B + u → u + q.time ≤ l → (r : Ran)
-      → Stands (t + q.time) (after t (run_of q w)) r w → Stands B X r w
+  pub going-unended : (u : ℕ) (q : Ran) (w : List ℕ) → Y ≡ after u (run_of q w) → (t : ℕ) → t + l ≡ B + u → u + time_of q ≤ l → (r : Ran)
+      → Stands (t + time_of q) (after t (run_of q w)) r w → Stands B X r w
   going-unended u q w e t h m r S =
       let f : t ≡ B - l + u = omega (arith, G.within) in
       record {
@@ -266,8 +263,8 @@ module _ {B l : ℕ} {X Y : Run} (G : Going B l X Y) where
       }
 
   -- an exit in it ends the loop
-  pub going-caught : (q : Ran) (w : List ℕ) → Y ≡ caught (run_of q w) → (t : ℕ) → t + l ≡ B → q.time ≤ l → (p : Ran)
-      → Stands (t + q.time) (after t (run_of q w)) p w → (r : Ran) → Stands p.time (caught (run_of p w)) r w → Stands B X r w
+  pub going-caught : (q : Ran) (w : List ℕ) → Y ≡ caught (run_of q w) → (t : ℕ) → t + l ≡ B → time_of q ≤ l → (p : Ran)
+      → Stands (t + time_of q) (after t (run_of q w)) p w → (r : Ran) → Stands (time_of p) (caught (run_of p w)) r w → Stands B X r w
   going-caught q w e t h m p S r C =
       let f : t ≡ B - l = omega (arith, G.within) in
       record {
@@ -278,8 +275,8 @@ module _ {B l : ℕ} {X Y : Run} (G : Going B l X Y) where
       }
 
   pub going_end : (u : ℕ) (w : List ℕ) → Y ≡ after u (ended 0 (store_of w)) → (t : ℕ) → t + l ≡ B + u → u ≤ l
-      → Stands B X (record { ended = true; left = false; time = t }) w
-  unfolding after run_of
+      → Stands B X (Ended t) w
+  unfolding after
   going_end u w e t h m =
       let f : t ≡ B - l + (u + 0) = omega (arith, G.within) in
       record { is = ap (λ (t : ℕ). ended t (store_of w)) f ∙ sym (G.is ∙ ap (after (B - l)) e); within = omega arith }

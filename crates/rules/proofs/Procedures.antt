@@ -8,16 +8,27 @@ use native.Mathlib.Nat.{add-zero, le_of_suc-le-suc}
 use lib.ListN.{length, get_or, take}
 use lib.Seq.{get_or-drop}
 use Rattle.model.specs.Program.{Code, Stmt, ok, Tree, stmt, none, as_stmt, node_count, trees_at, stmt_at, program_of, roots}
+use Rattle.model.specs.Rules.{Costs, Store, run}
 use Rattle.model.specs.Procedures.{body_at, table, inline, inlined, meaning}
 use Rattle.laws.specs.Program.Inlined.{table-made, table_none, table_same}
 use Rattle.laws.specs.Program.Passed.{program-trees}
 use Rattle.program.specs.Roots.{Rooted, count-roots}
 use Rattle.program.specs.Ends.{Laid, skips, skips-trees}
-use Rattle.rules.specs.Ran.{called_at, meant_at, Statable, Ready}
+use Rattle.rules.specs.declared.ways.Ran.{Ran}
+use Rattle.rules.specs.Ran.{Stands, called_at, meant_at, Statable, Ready}
+use Rattle.rules.proofs.Runs.{stands-as}
 
--- the same node by another name
-pub meant-as : (k : ℕ) (s : List ℕ) (i : ℕ) {P : Code} → stmt_at s i ≡ P → meant_at k s i ≡ inline (inlined (program_of 1 k s).bodies) P
-meant-as k s i e = ap (inline (inlined (program_of 1 k s).bodies)) e
+-- a node that is P, read with these bodies for its calls: it is run as P is, and ready where P is
+module _ (k : ℕ) (s : List ℕ) (i : ℕ) {P : Code} (e : stmt_at s i ≡ P) where
+  meant-as : meant_at k s i ≡ inline (inlined (program_of 1 k s).bodies) P
+  meant-as = ap (inline (inlined (program_of 1 k s).bodies)) e
+
+  pub node-runs : (κ : Costs) (n : ℕ) (σ : Store) (r : Ran) (w : List ℕ)
+      → Stands n (run κ n (inline (inlined (program_of 1 k s).bodies) P) σ) r w → Stands n (run κ n (meant_at k s i) σ) r w
+  node-runs κ n σ r w S = stands-as κ n σ r w meant-as S
+
+  pub node-ready : {ends : List ℕ} → Ready s ends k (meant_at k s i) → Ready s ends k (inline (inlined (program_of 1 k s).bodies) P)
+  node-ready {ends} R = subst (Ready s ends k) meant-as R
 
 -- bodies of the first so many trees
 count-taken : (k : ℕ) (ts : List Tree) → k ≤ length ts → length (map as_stmt (take k ts)) ≡ k

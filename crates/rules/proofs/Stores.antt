@@ -5,8 +5,8 @@ use mathlib.Core.List.{List}
 use Prim.Native.Nat.{ℕ, zero, suc, ◌+◌, ◌≤◌, ◌<◌}
 use native.Mathlib.Omega.{arith}
 use native.Mathlib.Decide.{ℕ_discrete}
-use lib.ListN.{length, get_or, set, length-set}
-use lib.Seq.{get_or-set_same, get_or-set_other, ext_get_or}
+use lib.ListN.{length, get_or, take, set, length-set}
+use lib.Seq.{get_or-set_same, get_or-set_other, get_or-take, ext_get_or}
 use lib.Dec.{eqb}
 use borrow.Author.Tests.{eq-eqb, ne_eqb}
 use Rattle.model.specs.Word.{pick}
@@ -54,3 +54,8 @@ filled-listed m w σ F =
     (λ i h.
     let l : i < m = omega (arith, F.0) in
     F.2 i l ∙ ap σ (omega arith) ∙ sym (listed_at σ m 0 i l))
+
+pub taken : (n : ℕ) (w v : List ℕ) → length v ≡ n → v ≡ take n w → v ≡ listed (store_of w) 0 n
+unfolding store_of
+taken n w v l e =
+    filled-listed n v (store_of w) (l, omega arith, λ x m. ap (λ (v : List ℕ). get_or v x 0) e ∙ get_or-take n w x 0 m)

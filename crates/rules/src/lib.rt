@@ -7,71 +7,59 @@ ghost use Rattle.model.specs.Program.{program_of};
 ghost use Rattle.model.specs.Procedures.{meaning};
 ghost use Rattle.model.specs.Calls.{refused_answer, reference_answer, reference_call};
 ghost use Rattle.model.specs.FunctionalCalls.{reference_functional_call};
-ghost use Rattle.rules.specs.Ran.{costs_of, run_of, main_answer, Ready};
+ghost use Rattle.rules.specs.Ran.{costs_of, run_of, time_of, main_answer, Runnable};
 
 mod words; // words and expressions
 mod ways; // how a statement ran
 mod statements; // statements by their nodes
 
-use crate::statements::Costs;
+use crate::statements::{Costs, Interpreter};
 use crate::ways::Ran;
-use model::sizes::{LAST_INSTANT, START_WORDS};
-use model::{Answer, Checked, Options, Outcome, Refusal};
-use program::nodes;
-
-fn refused(number: u8, place: usize) -> Answer
-    ensures { result ≡ refused_answer (record { number = number; place = place }) }
-{
-    Answer {
-        outcome: Outcome::Refused(Refusal { number, place }),
-        instant: 0,
-        count: 0,
-        words: [0u16; 16],
-    }
-}
+use model::sizes::{LAST_INSTANT, NODE, START_WORDS};
+use model::{Answer, Options, Outcome, Refusal};
+use program::nodes::Tree;
 
 // The answer of a run within a budget, which left these words.
 fn answer(words: &[u16; 272], ran: Ran, budget: u32) -> Answer
-    requires { (ran.time ≤ budget) × (budget ≤ 1000000) }
+    requires { (time_of ran ≤ budget) × (budget ≤ 1000000) }
     ensures { result ≡ reference_answer budget (run_of ran words.now) }
 {
-    if ran.ended {
-        return Answer {
+    match ran {
+        Ran::Ended(time) => Answer {
             outcome: Outcome::Ended,
-            instant: ran.time,
-            count: ran.time + 1,
+            instant: time,
+            count: time + 1,
             words: words::variables(words),
-        };
-    }
-    Answer {
-        outcome: Outcome::Open,
-        instant: budget,
-        count: budget + 1,
-        words: [0u16; 16],
+        },
+        _ => Answer {
+            outcome: Outcome::Open,
+            instant: budget,
+            count: budget + 1,
+            words: [0; 16],
+        },
     }
 }
 
 // Refusals 13 and 14, and then the main program, which so many procedures stand before, from 544 bytes of start words.
-fn run_main(
-    program: &[u8],
-    ends: &[usize; 200],
-    procedures: usize,
-    start: &[u8],
-    budget: u32,
-    costs: Costs,
-) -> Answer
-    requires { Ready program.now ends.now procedures (meaning (program_of 1 procedures program.now)) }
-    ensures { result ≡ main_answer (costs_of costs) procedures program.now start.now budget }
+fn run_main(interpreter: &Interpreter, procedures: usize, start: &[u8], budget: u32) -> Answer
+    requires { Runnable interpreter.now procedures (meaning (program_of 1 procedures interpreter.now.tree.program.now)) }
+    ensures { result ≡ main_answer (costs_of interpreter.now.costs) procedures interpreter.now.tree.program.now start.now budget }
 {
     if LAST_INSTANT < budget {
-        return refused(13, 0);
+        return Answer::refused(Refusal {
+            number: 13,
+            place: 0,
+        });
     }
     if start.len() < START_WORDS {
-        return refused(14, 0);
+        return Answer::refused(Refusal {
+            number: 14,
+            place: 0,
+        });
     }
-    let main = nodes::skip(ends, program.len() / 4, 0, procedures);
+    let main = interpreter.tree.skip(0, procedures);
     let mut held = words::start_words(start);
-    let ran = statements::run_at(&mut held, program, ends, procedures, main, budget, costs);
+    let ran = interpreter.run_at(&mut held, procedures, main, budget);
     answer(&held, ran, budget)
 }
 
@@ -79,17 +67,19 @@ fn run_main(
 pub fn reference_run(options: Options, program: &[u8], words: &[u8], budget: u32) -> Answer
     ensures { result ≡ reference_call options program.now words.now budget }
 {
-    let told = program::scan(options, program);
-    let checked = told.checked;
-    match checked {
-        Checked::Refused(r) => refused(r.number, r.place),
-        Checked::Accepted => {
-            let ends = told.ends;
+    match program::scan(options, program) {
+        Err(r) => Answer::refused(r),
+        Ok(told) => {
             let costs = Costs {
                 write: options.pulse,
                 latch: 0,
             };
-            run_main(program, &ends, options.procedures, words, budget, costs)
+            let tree = Tree {
+                program,
+                ends: &told.ends,
+            };
+            let interpreter = Interpreter { tree, costs };
+            run_main(&interpreter, options.procedures, words, budget)
         }
     }
 }
@@ -98,14 +88,16 @@ pub fn reference_run(options: Options, program: &[u8], words: &[u8], budget: u32
 pub fn reference_functional(options: Options, program: &[u8], words: &[u8], budget: u32) -> Answer
     ensures { result ≡ reference_functional_call options program.now words.now budget }
 {
-    let told = program::scan_functional(options, program);
-    let checked = told.checked;
-    match checked {
-        Checked::Refused(r) => refused(r.number, r.place),
-        Checked::Accepted => {
-            let ends = told.ends;
+    match program::scan_functional(options, program) {
+        Err(r) => Answer::refused(r),
+        Ok(told) => {
             let costs = Costs { write: 0, latch: 1 };
-            run_main(program, &ends, 0, words, budget, costs)
+            let tree = Tree {
+                program,
+                ends: &told.ends,
+            };
+            let interpreter = Interpreter { tree, costs };
+            run_main(&interpreter, 0, words, budget)
         }
     }
 }

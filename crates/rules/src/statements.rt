@@ -1,14 +1,14 @@
 // The statements of a program, run by their nodes from lent words, which they leave as the rules say.
 // Contracts are equations with model/Rules; specs/Ran says what words, costs and runs in code stand for.
 // Each kind of statement has a function that runs it from its children's nodes. Of a run that is still going the words say nothing.
-ghost use Rattle.std.specs.Prelude.{◌≡◌, ◌≤◌, ◌<◌, length};
-ghost use Rattle.model.specs.Program.{expr_at, tick, assign, assign_elem, seq, par, ite, while, repeat, loop};
-ghost use Rattle.model.specs.Rules.{run};
-ghost use Rattle.rules.specs.Ran.{costs_of, store_of, Leaving, called_at, meant_at, Statable, Ready};
+ghost use Rattle.std.specs.Prelude.{◌≤◌, ◌<◌};
+ghost use Rattle.model.specs.Program.{tick, assign, assign_elem, seq, par, ite, while, repeat, loop};
+ghost use Rattle.rules.specs.Ran.{expr_of, stmt_of, body_of, Sound, Runnable, Runs};
 
 use crate::ways::Ran;
-use crate::{ways, words};
-use program::nodes;
+use crate::words;
+use model::sizes::NODE;
+use program::nodes::{self, Tree};
 
 // What a kind of circuit adds to the delays: an assignment takes `write` more, and a loop's words are latched in `latch` instants, before each test of
 // a while and before each turn of a repeat.
@@ -18,338 +18,271 @@ pub struct Costs {
     pub latch: u8,
 }
 
-// The variable x gets the expression at node e.
-fn assign_at(
-    words: &mut [u16; 272],
-    program: &[u8],
-    ends: &[usize; 200],
-    e: usize,
-    x: u16,
-    d: u32,
-    budget: u32,
-    costs: Costs,
-) -> Ran
-    requires { Statable program.now ends.now (assign d x (expr_at program.now e)) × (d < 256) × (length words.old ≡ 272) }
-    ensures { Leaving budget (run (costs_of costs) budget (assign d x (expr_at program.now e)) (store_of words.old)) result words.new }
-{
-    let value = words::eval_at(program, ends, e, words);
-    words[x as usize] = value;
-    ways::pause(d + costs.write as u32, budget)
+// What all statements are run by: the program, where its nodes' subtrees end, and the costs.
+#[derive(Clone, Copy)]
+pub struct Interpreter<'a> {
+    pub tree: Tree<'a>,
+    pub costs: Costs,
 }
 
-// The element of an array, whose index is the expression at node e, gets the expression at node f.
-fn assign_elem_at(
-    words: &mut [u16; 272],
-    program: &[u8],
-    ends: &[usize; 200],
-    e: usize,
-    f: usize,
-    array: u16,
-    d: u32,
-    budget: u32,
-    costs: Costs,
-) -> Ran
-    requires { Statable program.now ends.now (assign_elem d array (expr_at program.now e) (expr_at program.now f)) × (d < 256) × (length words.old ≡ 272) }
-    ensures { Leaving budget (run (costs_of costs) budget (assign_elem d array (expr_at program.now e) (expr_at program.now f)) (store_of words.old)) result words.new }
-{
-    let index = words::eval_at(program, ends, e, words);
-    let value = words::eval_at(program, ends, f, words);
-    words[words::element_word(array, index)] = value;
-    ways::pause(d + costs.write as u32, budget)
-}
+impl Interpreter<'_> {
+    // The variable x gets the expression at node e.
+    fn assign_at(&self, words: &mut [u16; 272], e: usize, x: u16, d: u32, budget: u32) -> Ran
+        requires { Sound self.now (assign d x (expr_of self.now e)) × (d < 256) }
+        ensures { Runs self.now budget (assign d x (expr_of self.now e)) words.old result words.new }
+    {
+        let value = self.eval_at(e, words);
+        words[x as usize] = value;
+        Ran::pause(d + self.costs.write as u32, budget)
+    }
 
-// The statement at node p, and then that at node q.
-#[cycle(body_at_call_at_if_at_loop_at_par_at_repeat_at_run_at_seq_at_while_at)]
-fn seq_at(
-    words: &mut [u16; 272],
-    program: &[u8],
-    ends: &[usize; 200],
-    procedures: usize,
-    p: usize,
-    q: usize,
-    budget: u32,
-    costs: Costs,
-) -> Ran
-    requires { Ready program.now ends.now procedures (seq (meant_at procedures program.now p) (meant_at procedures program.now q)) × (p ≤ q) × (length words.old ≡ 272) }
-    ensures { Leaving budget (run (costs_of costs) budget (seq (meant_at procedures program.now p) (meant_at procedures program.now q)) (store_of words.old)) result words.new }
-{
-    let first = run_at(words, program, ends, procedures, p, budget, costs);
-    if !first.ended {
-        return first;
+    // The element of an array, whose index is the expression at node e, gets the expression at node f.
+    fn assign_elem_at(
+        &self,
+        words: &mut [u16; 272],
+        e: usize,
+        f: usize,
+        array: u16,
+        d: u32,
+        budget: u32,
+    ) -> Ran
+        requires { Sound self.now (assign_elem d array (expr_of self.now e) (expr_of self.now f)) × (d < 256) }
+        ensures { Runs self.now budget (assign_elem d array (expr_of self.now e) (expr_of self.now f)) words.old result words.new }
+    {
+        let index = self.eval_at(e, words);
+        let value = self.eval_at(f, words);
+        words[words::element_word(array, index)] = value;
+        Ran::pause(d + self.costs.write as u32, budget)
     }
-    let rest = run_at(
-        words,
-        program,
-        ends,
-        procedures,
-        q,
-        budget - first.time,
-        costs,
-    );
-    ways::later(first.time, rest)
-}
 
-// The statements at nodes p and q, side by side. No side writes what the other touches (refusal 8): so the second may start from the first's last words,
-// and what each wrote is left.
-#[cycle(body_at_call_at_if_at_loop_at_par_at_repeat_at_run_at_seq_at_while_at)]
-fn par_at(
-    words: &mut [u16; 272],
-    program: &[u8],
-    ends: &[usize; 200],
-    procedures: usize,
-    p: usize,
-    q: usize,
-    budget: u32,
-    costs: Costs,
-) -> Ran
-    requires { Ready program.now ends.now procedures (par (meant_at procedures program.now p) (meant_at procedures program.now q)) × (p ≤ q) × (length words.old ≡ 272) }
-    ensures { Leaving budget (run (costs_of costs) budget (par (meant_at procedures program.now p) (meant_at procedures program.now q)) (store_of words.old)) result words.new }
-{
-    let first = run_at(words, program, ends, procedures, p, budget, costs);
-    if !first.ended {
-        return ways::unfinished();
+    // The statement at node p, and then that at node q.
+    #[cycle(statement)]
+    fn seq_at(
+        &self,
+        words: &mut [u16; 272],
+        procedures: usize,
+        p: usize,
+        q: usize,
+        budget: u32,
+    ) -> Ran
+        requires { Runnable self.now procedures (seq (stmt_of self.now procedures p) (stmt_of self.now procedures q)) × (p ≤ q) }
+        ensures { Runs self.now budget (seq (stmt_of self.now procedures p) (stmt_of self.now procedures q)) words.old result words.new }
+    {
+        let first = self.run_at(words, procedures, p, budget);
+        let Ran::Ended(time) = first else {
+            return first;
+        };
+        self.run_at(words, procedures, q, budget - time).later(time)
     }
-    let second = run_at(words, program, ends, procedures, q, budget, costs);
-    if !second.ended {
-        return ways::unfinished();
-    }
-    Ran {
-        ended: true,
-        left: false,
-        time: ways::larger(first.time, second.time),
-    }
-}
 
-// If the expression at node e is true, the statement at node p, else that at node q.
-#[cycle(body_at_call_at_if_at_loop_at_par_at_repeat_at_run_at_seq_at_while_at)]
-fn if_at(
-    words: &mut [u16; 272],
-    program: &[u8],
-    ends: &[usize; 200],
-    procedures: usize,
-    e: usize,
-    p: usize,
-    q: usize,
-    d: u32,
-    budget: u32,
-    costs: Costs,
-) -> Ran
-    requires { Ready program.now ends.now procedures (ite d (expr_at program.now e) (meant_at procedures program.now p) (meant_at procedures program.now q)) × (p ≤ q) × (length words.old ≡ 272) }
-    ensures { Leaving budget (run (costs_of costs) budget (ite d (expr_at program.now e) (meant_at procedures program.now p) (meant_at procedures program.now q)) (store_of words.old)) result words.new }
-{
-    if budget < d {
-        return ways::unfinished();
+    // The statements at nodes p and q, side by side. No side writes what the other touches (refusal 8): so the second may start from the first's last words,
+    // and what each wrote is left.
+    #[cycle(statement)]
+    fn par_at(
+        &self,
+        words: &mut [u16; 272],
+        procedures: usize,
+        p: usize,
+        q: usize,
+        budget: u32,
+    ) -> Ran
+        requires { Runnable self.now procedures (par (stmt_of self.now procedures p) (stmt_of self.now procedures q)) × (p ≤ q) }
+        ensures { Runs self.now budget (par (stmt_of self.now procedures p) (stmt_of self.now procedures q)) words.old result words.new }
+    {
+        let Ran::Ended(first) = self.run_at(words, procedures, p, budget) else {
+            return Ran::Unfinished;
+        };
+        let Ran::Ended(second) = self.run_at(words, procedures, q, budget) else {
+            return Ran::Unfinished;
+        };
+        Ran::Ended(first.max(second))
     }
-    let value = words::eval_at(program, ends, e, words);
-    if value == 0 {
-        return ways::later(
-            d,
-            run_at(words, program, ends, procedures, q, budget - d, costs),
-        );
-    }
-    ways::later(
-        d,
-        run_at(words, program, ends, procedures, p, budget - d, costs),
-    )
-}
 
-// While the expression at node e is true, the statement at node p.
-#[cycle(body_at_call_at_if_at_loop_at_par_at_repeat_at_run_at_seq_at_while_at)]
-fn while_at(
-    words: &mut [u16; 272],
-    program: &[u8],
-    ends: &[usize; 200],
-    procedures: usize,
-    e: usize,
-    p: usize,
-    d: u32,
-    budget: u32,
-    costs: Costs,
-) -> Ran
-    requires { Ready program.now ends.now procedures (while d (expr_at program.now e) (meant_at procedures program.now p)) × (d < 256) × (length words.old ≡ 272) }
-    ensures { Leaving budget (run (costs_of costs) budget (while d (expr_at program.now e) (meant_at procedures program.now p)) (store_of words.old)) result words.new }
-{
-    let test = d + costs.latch as u32;
-    let mut left = budget;
-    while test <= left {
-        let rest = left - test;
-        if words::eval_at(program, ends, e, words) == 0 {
-            return Ran {
-                ended: true,
-                left: false,
-                time: budget - rest,
+    // If the expression at node e is true, the statement at node p, else that at node q.
+    #[cycle(statement)]
+    fn if_at(
+        &self,
+        words: &mut [u16; 272],
+        procedures: usize,
+        e: usize,
+        p: usize,
+        q: usize,
+        d: u32,
+        budget: u32,
+    ) -> Ran
+        requires { Runnable self.now procedures (ite d (expr_of self.now e) (stmt_of self.now procedures p) (stmt_of self.now procedures q)) × (p ≤ q) }
+        ensures { Runs self.now budget (ite d (expr_of self.now e) (stmt_of self.now procedures p) (stmt_of self.now procedures q)) words.old result words.new }
+    {
+        if budget < d {
+            return Ran::Unfinished;
+        }
+        let value = self.eval_at(e, words);
+        let branch = if value == 0 { q } else { p };
+        self.run_at(words, procedures, branch, budget - d).later(d)
+    }
+
+    // While the expression at node e is true, the statement at node p.
+    #[cycle(statement)]
+    fn while_at(
+        &self,
+        words: &mut [u16; 272],
+        procedures: usize,
+        e: usize,
+        p: usize,
+        d: u32,
+        budget: u32,
+    ) -> Ran
+        requires { Runnable self.now procedures (while d (expr_of self.now e) (stmt_of self.now procedures p)) × (d < 256) }
+        ensures { Runs self.now budget (while d (expr_of self.now e) (stmt_of self.now procedures p)) words.old result words.new }
+    {
+        let test = d + self.costs.latch as u32;
+        let mut left = budget;
+        // No range counts the turns: each tells how long it takes.
+        while test <= left {
+            let rest = left - test;
+            if self.eval_at(e, words) == 0 {
+                return Ran::Ended(budget - rest);
+            }
+            let turn = self.run_at(words, procedures, p, rest);
+            let Ran::Ended(time) = turn else {
+                return turn.later(budget - rest);
             };
+            left = rest - time;
         }
-        let turn = run_at(words, program, ends, procedures, p, rest, costs);
-        if !turn.ended {
-            return ways::later(budget - rest, turn);
-        }
-        left = rest - turn.time;
+        Ran::Unfinished
     }
-    ways::unfinished()
-}
 
-// The statement at node p, until the expression at node e is true.
-#[cycle(body_at_call_at_if_at_loop_at_par_at_repeat_at_run_at_seq_at_while_at)]
-fn repeat_at(
-    words: &mut [u16; 272],
-    program: &[u8],
-    ends: &[usize; 200],
-    procedures: usize,
-    e: usize,
-    p: usize,
-    d: u32,
-    budget: u32,
-    costs: Costs,
-) -> Ran
-    requires { Ready program.now ends.now procedures (repeat d (expr_at program.now e) (meant_at procedures program.now p)) × (length words.old ≡ 272) }
-    ensures { Leaving budget (run (costs_of costs) budget (repeat d (expr_at program.now e) (meant_at procedures program.now p)) (store_of words.old)) result words.new }
-{
-    let latch = costs.latch as u32;
-    let mut left = budget;
-    while latch <= left {
-        let awake = left - latch;
-        let turn = run_at(words, program, ends, procedures, p, awake, costs);
-        if !turn.ended {
-            return ways::later(budget - awake, turn);
-        }
-        let rest = awake - turn.time;
-        if rest < d {
-            return ways::unfinished();
-        }
-        left = rest - d;
-        if words::eval_at(program, ends, e, words) != 0 {
-            return Ran {
-                ended: true,
-                left: false,
-                time: budget - left,
+    // The statement at node p, until the expression at node e is true.
+    #[cycle(statement)]
+    fn repeat_at(
+        &self,
+        words: &mut [u16; 272],
+        procedures: usize,
+        e: usize,
+        p: usize,
+        d: u32,
+        budget: u32,
+    ) -> Ran
+        requires { Runnable self.now procedures (repeat d (expr_of self.now e) (stmt_of self.now procedures p)) }
+        ensures { Runs self.now budget (repeat d (expr_of self.now e) (stmt_of self.now procedures p)) words.old result words.new }
+    {
+        let latch = self.costs.latch as u32;
+        let mut left = budget;
+        // As above.
+        while latch <= left {
+            let awake = left - latch;
+            let turn = self.run_at(words, procedures, p, awake);
+            let Ran::Ended(time) = turn else {
+                return turn.later(budget - awake);
             };
+            let rest = awake - time;
+            if rest < d {
+                return Ran::Unfinished;
+            }
+            left = rest - d;
+            if self.eval_at(e, words) != 0 {
+                return Ran::Ended(budget - left);
+            }
         }
+        Ran::Unfinished
     }
-    ways::unfinished()
-}
 
-// The statement at node p, again and again, until it comes to an exit.
-#[cycle(body_at_call_at_if_at_loop_at_par_at_repeat_at_run_at_seq_at_while_at)]
-fn loop_at(
-    words: &mut [u16; 272],
-    program: &[u8],
-    ends: &[usize; 200],
-    procedures: usize,
-    p: usize,
-    d: u32,
-    budget: u32,
-    costs: Costs,
-) -> Ran
-    requires { Ready program.now ends.now procedures (loop d (meant_at procedures program.now p)) × (length words.old ≡ 272) }
-    ensures { Leaving budget (run (costs_of costs) budget (loop d (meant_at procedures program.now p)) (store_of words.old)) result words.new }
-{
-    let mut left = budget;
-    loop {
-        let turn = run_at(words, program, ends, procedures, p, left, costs);
-        if !turn.ended {
-            return ways::caught(ways::later(budget - left, turn));
+    // The statement at node p, again and again, until it comes to an exit.
+    #[cycle(statement)]
+    fn loop_at(
+        &self,
+        words: &mut [u16; 272],
+        procedures: usize,
+        p: usize,
+        d: u32,
+        budget: u32,
+    ) -> Ran
+        requires { Runnable self.now procedures (loop d (stmt_of self.now procedures p)) }
+        ensures { Runs self.now budget (loop d (stmt_of self.now procedures p)) words.old result words.new }
+    {
+        let mut left = budget;
+        // As above; and it is left by its turns alone.
+        loop {
+            let turn = self.run_at(words, procedures, p, left);
+            let Ran::Ended(time) = turn else {
+                return turn.later(budget - left).caught();
+            };
+            let rest = left - time;
+            if rest < d {
+                return Ran::Unfinished;
+            }
+            left = rest - d;
         }
-        let rest = left - turn.time;
-        if rest < d {
-            return ways::unfinished();
-        }
-        left = rest - d;
     }
-}
 
-// The body of procedure p, which may call those before it.
-#[cycle(body_at_call_at_if_at_loop_at_par_at_repeat_at_run_at_seq_at_while_at)]
-fn body_at(
-    words: &mut [u16; 272],
-    program: &[u8],
-    ends: &[usize; 200],
-    procedures: usize,
-    p: usize,
-    budget: u32,
-    costs: Costs,
-) -> Ran
-    requires { Ready program.now ends.now procedures (called_at procedures program.now p) × (length words.old ≡ 272) }
-    ensures { Leaving budget (run (costs_of costs) budget (called_at procedures program.now p) (store_of words.old)) result words.new }
-{
-    if procedures <= p {
-        return ways::pause(0, budget);
-    }
-    let body = nodes::skip(ends, program.len() / 4, 0, p);
-    run_at(words, program, ends, p, body, budget, costs)
-}
-
-// A call of procedure p: the delay, and then its body.
-#[cycle(body_at_call_at_if_at_loop_at_par_at_repeat_at_run_at_seq_at_while_at)]
-fn call_at(
-    words: &mut [u16; 272],
-    program: &[u8],
-    ends: &[usize; 200],
-    procedures: usize,
-    p: usize,
-    d: u32,
-    budget: u32,
-    costs: Costs,
-) -> Ran
-    requires { Ready program.now ends.now procedures (seq (tick d) (called_at procedures program.now p)) × (length words.old ≡ 272) }
-    ensures { Leaving budget (run (costs_of costs) budget (seq (tick d) (called_at procedures program.now p)) (store_of words.old)) result words.new }
-{
-    if budget < d {
-        return ways::unfinished();
-    }
-    let body = body_at(words, program, ends, procedures, p, budget - d, costs);
-    ways::later(d, body)
-}
-
-// The statement at node i, from these words on; it may call the first so many procedures.
-#[cycle(body_at_call_at_if_at_loop_at_par_at_repeat_at_run_at_seq_at_while_at)]
-pub fn run_at(
-    words: &mut [u16; 272],
-    program: &[u8],
-    ends: &[usize; 200],
-    procedures: usize,
-    i: usize,
-    budget: u32,
-    costs: Costs,
-) -> Ran
-    requires { Ready program.now ends.now procedures (meant_at procedures program.now i) × (length words.old ≡ 272) }
-    ensures { Leaving budget (run (costs_of costs) budget (meant_at procedures program.now i) (store_of words.old)) result words.new }
-{
-    let count = program.len() / 4;
-    if count <= i {
-        return ways::pause(0, budget);
-    }
-    let node = nodes::read_node(program, i);
-    let kind = node.kind;
-    if kind <= 16 {
-        return ways::pause(0, budget);
-    }
-    let d = node.delay as u32;
-    let i1 = i + 1;
-    let i2 = nodes::next(ends, count, i1);
-    match kind {
-        17 => ways::pause(d, budget),
-        18 => assign_at(words, program, ends, i1, node.n, d, budget, costs),
-        19 => seq_at(words, program, ends, procedures, i1, i2, budget, costs),
-        20 => par_at(words, program, ends, procedures, i1, i2, budget, costs),
-        21 => {
-            let i3 = nodes::next(ends, count, i2);
-            if_at(
-                words, program, ends, procedures, i1, i2, i3, d, budget, costs,
-            )
+    // The body of procedure p, which may call those before it.
+    #[cycle(statement)]
+    fn body_at(&self, words: &mut [u16; 272], procedures: usize, p: usize, budget: u32) -> Ran
+        requires { Runnable self.now procedures (body_of self.now procedures p) }
+        ensures { Runs self.now budget (body_of self.now procedures p) words.old result words.new }
+    {
+        if procedures <= p {
+            return Ran::Ended(0);
         }
-        22 => while_at(words, program, ends, procedures, i1, i2, d, budget, costs),
-        24 => assign_elem_at(words, program, ends, i1, i2, node.n, d, budget, costs),
-        25 => loop_at(words, program, ends, procedures, i1, d, budget, costs),
-        26 => Ran {
-            ended: false,
-            left: true,
-            time: 0,
-        },
-        27 => {
-            let p = node.n as usize;
-            call_at(words, program, ends, procedures, p, d, budget, costs)
+        let body = self.tree.skip(0, p);
+        self.run_at(words, p, body, budget)
+    }
+
+    // A call of procedure p: the delay, and then its body.
+    #[cycle(statement)]
+    fn call_at(
+        &self,
+        words: &mut [u16; 272],
+        procedures: usize,
+        p: usize,
+        d: u32,
+        budget: u32,
+    ) -> Ran
+        requires { Runnable self.now procedures (seq (tick d) (body_of self.now procedures p)) }
+        ensures { Runs self.now budget (seq (tick d) (body_of self.now procedures p)) words.old result words.new }
+    {
+        if budget < d {
+            return Ran::Unfinished;
         }
-        _ => repeat_at(words, program, ends, procedures, i1, i2, d, budget, costs),
+        self.body_at(words, procedures, p, budget - d).later(d)
+    }
+
+    // The statement at node i, from these words on; it may call the first so many procedures.
+    #[cycle(statement)]
+    pub fn run_at(&self, words: &mut [u16; 272], procedures: usize, i: usize, budget: u32) -> Ran
+        requires { Runnable self.now procedures (stmt_of self.now procedures i) }
+        ensures { Runs self.now budget (stmt_of self.now procedures i) words.old result words.new }
+    {
+        let count = self.tree.program.len() / NODE;
+        if count <= i {
+            return Ran::Ended(0);
+        }
+        let node = nodes::read_node(self.tree.program, i);
+        let kind = node.kind;
+        if kind <= 16 {
+            return Ran::Ended(0);
+        }
+        let d = node.delay as u32;
+        let i1 = i + 1;
+        let i2 = self.tree.next(i1);
+        match kind {
+            17 => Ran::pause(d, budget),
+            18 => self.assign_at(words, i1, node.n, d, budget),
+            19 => self.seq_at(words, procedures, i1, i2, budget),
+            20 => self.par_at(words, procedures, i1, i2, budget),
+            21 => {
+                let i3 = self.tree.next(i2);
+                self.if_at(words, procedures, i1, i2, i3, d, budget)
+            }
+            22 => self.while_at(words, procedures, i1, i2, d, budget),
+            24 => self.assign_elem_at(words, i1, i2, node.n, d, budget),
+            25 => self.loop_at(words, procedures, i1, d, budget),
+            26 => Ran::Left(0),
+            27 => {
+                let p = node.n as usize;
+                self.call_at(words, procedures, p, d, budget)
+            }
+            _ => self.repeat_at(words, procedures, i1, i2, d, budget),
+        }
     }
 }

@@ -3,12 +3,13 @@
 // Words are lent, so that none of the calls within each other has a copy of them.
 ghost use Rattle.std.specs.Prelude.{◌≡◌, ◌≤◌, length};
 ghost use Rattle.model.specs.Word.{element_word};
-ghost use Rattle.model.specs.Program.{expr_at};
 ghost use Rattle.model.specs.Rules.{eval};
 ghost use Rattle.model.specs.Calls.{word_at, listed};
 ghost use Rattle.program.specs.Ends.{Laid};
-ghost use Rattle.rules.specs.Ran.{store_of};
+ghost use Rattle.rules.specs.Ran.{store_of, expr_of};
 
+use crate::statements::Interpreter;
+use model::sizes::NODE;
 use program::nodes;
 
 // The start words, from 544 bytes; what lies past them is not looked at.
@@ -16,11 +17,9 @@ pub fn start_words(bytes: &[u8]) -> [u16; 272]
     requires { 544 ≤ length bytes.now }
     ensures { result ≡ listed (word_at bytes.now) 0 272 }
 {
-    let mut words = [0u16; 272];
-    let mut x: usize = 0;
-    while x < 272 {
-        words[x] = word::get16(bytes, 2 * x);
-        x += 1;
+    let mut words = [0; 272];
+    for (x, held) in words.iter_mut().enumerate() {
+        *held = word::get16(bytes, 2 * x);
     }
     words
 }
@@ -29,20 +28,15 @@ pub fn start_words(bytes: &[u8]) -> [u16; 272]
 pub fn variables(words: &[u16; 272]) -> [u16; 16]
     ensures { result ≡ listed (store_of words.now) 0 16 }
 {
-    let mut held = [0u16; 16];
-    let mut x: usize = 0;
-    while x < 16 {
-        held[x] = words[x];
-        x += 1;
-    }
+    let mut held = [0; 16];
+    held.copy_from_slice(&words[..16]);
     held
 }
 
 fn word_of(words: &[u16; 272], x: usize) -> u16
-    requires { length words.now ≡ 272 }
     ensures { result ≡ store_of words.now x }
 {
-    if x < 272 { words[x] } else { 0 }
+    words.get(x).copied().unwrap_or(0)
 }
 
 // Which word an element is. "Only the low six bits of an index count."
@@ -52,33 +46,35 @@ pub fn element_word(array: u16, index: u16) -> usize
     16 + (64 * array as usize + index as usize % 64)
 }
 
-// The expression at node i, on these words.
-pub fn eval_at(program: &[u8], ends: &[usize; 200], i: usize, words: &[u16; 272]) -> u16
-    requires { Laid program.now ends.now × (length words.now ≡ 272) }
-    ensures { result ≡ eval (expr_at program.now i) (store_of words.now) }
-{
-    let count = program.len() / 4;
-    if count <= i {
-        return 0;
+impl Interpreter<'_> {
+    // The expression at node i, on these words.
+    pub fn eval_at(&self, i: usize, words: &[u16; 272]) -> u16
+        requires { Laid self.now.tree.program.now self.now.tree.ends.now }
+        ensures { result ≡ eval (expr_of self.now i) (store_of words.now) }
+    {
+        let count = self.tree.program.len() / NODE;
+        if count <= i {
+            return 0;
+        }
+        let node = nodes::read_node(self.tree.program, i);
+        let kind = node.kind;
+        if 16 <= kind {
+            return 0;
+        }
+        if kind == 1 {
+            return node.n;
+        }
+        if kind == 2 {
+            return word_of(words, node.n as usize);
+        }
+        let first = self.eval_at(i + 1, words);
+        if kind == 3 {
+            return word::operate(3, first, 0);
+        }
+        if kind == 10 {
+            return word_of(words, element_word(node.n, first));
+        }
+        let second = self.eval_at(self.tree.next(i + 1), words);
+        word::operate(kind, first, second)
     }
-    let node = nodes::read_node(program, i);
-    let kind = node.kind;
-    if 16 <= kind {
-        return 0;
-    }
-    if kind == 1 {
-        return node.n;
-    }
-    if kind == 2 {
-        return word_of(words, node.n as usize);
-    }
-    let first = eval_at(program, ends, i + 1, words);
-    if kind == 3 {
-        return word::operate(3, first, 0);
-    }
-    if kind == 10 {
-        return word_of(words, element_word(node.n, first));
-    }
-    let second = eval_at(program, ends, nodes::next(ends, count, i + 1), words);
-    word::operate(kind, first, second)
 }

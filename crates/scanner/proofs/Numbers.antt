@@ -7,10 +7,13 @@ use Prim.Native.Nat.{ℕ, zero, suc, ◌+◌, ◌-◌, ◌*◌, ◌≤◌, ◌<�
 use native.Mathlib.Omega.{arith}
 use native.Mathlib.Numerals.{add-one}
 use lib.Dec.{leb, ltb, eqb}
-use lib.ListN.{length, get_or, take, drop, length-drop, drop_of_length-le, get_or-eq_default}
+use lib.ListN.{length, get_or, take, drop, length-drop, drop_of_length-le}
 use lib.Seq.{drop-cons, take_all}
-use borrow.Author.Tests.{leb-true, le-leb, ltb-true, ltb-false, le-ltb, eqb-true, eqb-false, eq-eqb, ne_eqb}
+use Rattle.std.specs.List.{list_all}
+use borrow.Author.Tests.{leb-true, le-leb, ltb-true, ltb-false, le-ltb, eqb-false, eq-eqb, ne_eqb}
 use Rattle.model.specs.Text.{digit, all_digits, value_from, is_number, is_name}
+use Rattle.std.specs.Prelude.{Option, Some, None}
+use Rattle.scanner.specs.Scanning.{number_of, name_of}
 use Rattle.laws.specs.Refusals.Laws.{by_bool, not-both, and-true, and-of, or-false}
 
 -- Digits -------------------------------------------------------------------------------------------------------------------------------
@@ -21,18 +24,10 @@ digit-range c e =
     let both = and-true (leb 48 c) (leb c 57) e in
     (leb-true 48 c both.0, leb-true c 57 both.1)
 
-module _ (w : List ℕ) {i : ℕ} where
-  pub digits_more : i < length w → digit (get_or w i 0) ≡ true → all_digits (drop i w) ≡ all_digits (drop (i + 1) w)
-  unfolding all_digits
-  digits_more h e = rw (add-one i, drop-cons w i 0 h, all_digits, e) refl
-
-  pub digits-stop : i < length w → digit (get_or w i 0) ≡ false → all_digits (drop i w) ≡ false
-  unfolding all_digits
-  digits-stop h e = rw (drop-cons w i 0 h, all_digits, e) refl
-
-  pub digits-end : length w ≤ i → all_digits (drop i w) ≡ true
-  unfolding all_digits
-  digits-end h = rw (drop_of_length-le w h) refl
+pub digits_all : (w : List ℕ) → all_digits w ≡ list_all digit w
+unfolding all_digits
+digits_all [] = refl
+digits_all (c ∷ w) = rw (digits_all w) refl
 
 pub digit_at : (w : List ℕ) (i : ℕ) → all_digits w ≡ true → i < length w → digit (get_or w i 0) ≡ true
 unfolding all_digits
@@ -147,27 +142,29 @@ module _ (limit : ℕ) (w : List ℕ) where
       let size = size-right e in
       all_true (and-of (le-leb 1 (length w) size.0) (le-leb (length w) 5 size.1)) f (first-right size.0 g)
 
+  pub number-none : is_number limit w ≡ false → None ≡ number_of limit w
+  unfolding number_of
+  number-none e = rw e refl
+
+  pub number-some : {n : ℕ} → is_number limit w ≡ true → n ≡ value_from 0 w → Some n ≡ number_of limit w
+  unfolding number_of
+  number-some e f = rw (e, f) refl
+
 -- Names --------------------------------------------------------------------------------------------------------------------------------
 
 module _ (w : List ℕ) where
-  pub name-first : get_or w 0 0 ≡ 120 → 1 ≤ length w
-  name-first e = by_bool (ltb 0 (length w)) (λ z. ltb-true 0 (length w) z)
-      (λ z. absurd (omega (arith, get_or-eq_default w 0 (ltb-false 0 (length w) z))))
-
   -- the part of w after its first byte, as it is lent
   pub after_first : take (length w - 1) (drop 1 w) ≡ drop 1 w
   after_first = take_all (length w - 1) (drop 1 w) (simp length-drop (omega arith))
 
-  pub no_name : (get_or w 0 0 ≡ 120 → ⊥) → is_name w ≡ false
-  unfolding is_name
-  no_name e = rw (ne_eqb (get_or w 0 0) 120 e) refl
+  pub name-none : (get_or w 0 0 ≡ 120 → ⊥) → None ≡ name_of w
+  unfolding name_of is_name
+  name-none e = rw (ne_eqb (get_or w 0 0) 120 e) refl
 
-  pub name-number : get_or w 0 0 ≡ 120 → is_name w ≡ is_number 15 (drop 1 w)
-  unfolding is_name
-  name-number e = rw (eq-eqb (get_or w 0 0) 120 e) refl
+  pub name-number : {n : Option ℕ} → get_or w 0 0 ≡ 120 → n ≡ number_of 15 (drop 1 w) → n ≡ name_of w
+  unfolding name_of is_name number_of
+  name-number e f = rw (eq-eqb (get_or w 0 0) 120 e) f
 
-  pub name-known : is_name w ≡ true → (1 ≤ length w) × Number 15 (drop 1 w)
+  pub name-known : is_name w ≡ true → Number 15 (drop 1 w)
   unfolding is_name
-  name-known e =
-      let both = and-true (eqb (get_or w 0 0) 120) (is_number 15 (drop 1 w)) e in
-      (name-first (eqb-true (get_or w 0 0) 120 both.0), number-known 15 (drop 1 w) both.1)
+  name-known e = number-known 15 (drop 1 w) (and-true (eqb (get_or w 0 0) 120) (is_number 15 (drop 1 w)) e).1

@@ -1,22 +1,23 @@
 -- Words: a run or a sign at a place, and the first word that is outside the language.
 -- Assumes nothing.
 use mathlib.Core.Path.{◌≡◌, refl, ◌∙◌, ap}
-use mathlib.Core.Bool.{true, false}
+use mathlib.Core.Bool.{true}
 use mathlib.Core.List.{List}
 use Prim.Native.Nat.{ℕ, ◌+◌, ◌-◌, ◌≤◌, ◌<◌}
 use native.Mathlib.Omega.{arith}
 use lib.Dec.{ltb, eqb}
-use lib.ListN.{length, get_or, take, drop, length-drop, drop_of_length-le}
+use lib.ListN.{length, get_or, take, drop, length-drop}
 use lib.Seq.{get_or-drop}
+use Rattle.std.proofs.lemmas.List.Sums.{prefix_len-le-length}
+use Rattle.std.specs.Prelude.{Some, None}
 use borrow.Author.Tests.{eq-eqb, ne_eqb}
 use Rattle.model.specs.declared.texts.Token.{Token}
-use Rattle.model.specs.declared.Checked.TheVariants.{Accepted}
-use Rattle.model.specs.Refusals.{refuse}
+use Rattle.model.specs.Refusals.{refuse, Accepted}
 use Rattle.model.specs.Text.{sign, run_length, two_code, one_code, is_number, is_name, limit_after, run_token, token_at, size_at, words_from, outside}
 use Rattle.laws.specs.Refusals.Laws.{by_bool}
 use Rattle.scanner.specs.declared.Scanned.{Scanned}
-use Rattle.scanner.specs.Scanning.{after_blanks, a_word, word_here, next_word, Next}
-use Rattle.scanner.specs.ScanningLaws.{in_run, run-front, front_length}
+use Rattle.scanner.specs.Scanning.{after_blanks, a_word, word_here, words_ahead, next_word, Next}
+use Rattle.scanner.specs.ScanningLaws.{in_run, run-front}
 use Rattle.scanner.proofs.Numbers.{number-known, name-known}
 use Rattle.scanner.proofs.Runs.{limit-large}
 
@@ -25,7 +26,7 @@ use Rattle.scanner.proofs.Runs.{limit-large}
 module _ (text : List ℕ) (i : ℕ) {e : ℕ} (run : e ≡ i + run_length (drop i text)) where
   pub run-within : i ≤ length text → e ≤ length text
   run-within h =
-      let l : run_length (drop i text) ≤ length text - i = rw (← length-drop i text, run-front (drop i text)) (front_length in_run (drop i text)) in
+      let l : run_length (drop i text) ≤ length text - i = rw (← length-drop i text, run-front (drop i text)) (prefix_len-le-length in_run (drop i text)) in
       omega arith
 
   pub run-here : (p : ℕ) {t : Token} → i < e → t ≡ run_token p (take (e - i) (drop i text)) → a_word t i e ≡ word_here p i text
@@ -54,6 +55,12 @@ module _ (text : List ℕ) (i : ℕ) {e : ℕ} (run : e ≡ i + run_length (drop
         let first : get_or (drop i text) 0 0 ≡ c = let z : i + 0 ≡ i = omega arith in rw (f, get_or-drop i text 0 0, z) refl in
         rw (no_run, sign-code, eq-eqb two 0 h, first, o) refl
 
+some-inj : {a b : Scanned} → Some a ≡ Some b → a ≡ b
+some-inj e = cc
+
+some-none : {a : Scanned} → Some a ≡ None → ⊥
+some-none e = cc
+
 -- How large values are ----------------------------------------------------------------------------------------------------------------
 
 module _ (p : ℕ) where
@@ -63,7 +70,7 @@ module _ (p : ℕ) where
       by_bool (is_number (limit_after p) w)
       (λ z. rw z (number-known (limit_after p) w z).small)
       (λ z. by_bool (is_name w)
-      (λ y. rw (z, y) (omega (arith, (name-known w y).1.small, limit-large p)))
+      (λ y. rw (z, y) (omega (arith, (name-known w y).small, limit-large p)))
       (λ y. rw (z, y) (omega arith)))
 
   token-small : (s : List ℕ) → (token_at p s).value ≤ limit_after p
@@ -74,32 +81,27 @@ module _ (p : ℕ) where
       (λ z. rw z (run_small (take (run_length s) s)))
 
   -- of a number that is right after `@` or `tick`, a byte
-  pub value-limited : (from : ℕ) (text : List ℕ) {r : Scanned} → r ≡ next_word p from text → r.token.value ≤ limit_after p
+  pub value-limited : (from : ℕ) (text : List ℕ) {w : Scanned} → Some w ≡ next_word p from text → w.token.value ≤ limit_after p
   unfolding next_word word_here
-  value-limited from text e =
+  value-limited from text {w} e =
       let place = after_blanks from text in
-      rw e
-      (by_bool (ltb place (length text))
-      (λ z. rw z (token-small (drop place text)))
-      (λ z. rw z (omega arith)))
+      by_bool (ltb place (length text))
+      (λ z. let is : w ≡ word_here p place text = some-inj (rw z at e) in rw is (token-small (drop place text)))
+      (λ z. absurd (some-none (rw z at e)))
 
 -- The first word outside the language --------------------------------------------------------------------------------------------------
 
 module _ (text : List ℕ) (at p : ℕ) where
-  pub outside-end : length text ≤ at → outside (words_from 0 p at (drop at text)) ≡ Accepted
-  unfolding outside words_from
-  outside-end h = rw (drop_of_length-le text h) refl
+  pub outside-none : Next text at p None → outside (words_from 0 p at (drop at text)) ≡ Accepted
+  unfolding outside words_ahead
+  outside-none n = ap outside n.words
 
-  module _ {r : Scanned} (n : Next text at p r) where
-    pub outside-none : r.found ≡ false → outside (words_from 0 p at (drop at text)) ≡ Accepted
-    unfolding outside
-    outside-none f = ap outside (n.none f)
+  module _ {w : Scanned} (n : Next text at p (Some w)) where
+    pub outside-here : w.token.code ≡ 0 → outside (words_from 0 p at (drop at text)) ≡ refuse 17 w.place
+    unfolding outside words_ahead
+    outside-here z = ap outside n.words ∙ rw (eq-eqb w.token.code 0 z) refl
 
-    pub outside-here : r.found ≡ true → r.token.code ≡ 0 → outside (words_from 0 p at (drop at text)) ≡ refuse 17 r.place
-    unfolding outside
-    outside-here f z = ap outside (n.word f) ∙ rw (eq-eqb r.token.code 0 z) refl
-
-    pub outside-next : r.found ≡ true → (r.token.code ≡ 0 → ⊥)
-        → outside (words_from 0 p at (drop at text)) ≡ outside (words_from 0 r.token.code r.end (drop r.end text))
-    unfolding outside
-    outside-next f z = ap outside (n.word f) ∙ rw (ne_eqb r.token.code 0 z) refl
+    pub outside-next : (w.token.code ≡ 0 → ⊥)
+        → outside (words_from 0 p at (drop at text)) ≡ outside (words_from 0 w.token.code w.end (drop w.end text))
+    unfolding outside words_ahead
+    outside-next z = ap outside n.words ∙ rw (ne_eqb w.token.code 0 z) refl

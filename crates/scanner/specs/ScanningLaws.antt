@@ -9,33 +9,28 @@ use native.Mathlib.Omega.{arith}
 use Rattle.std.proofs.Math.ListN.{length, drop, length-drop}
 use Rattle.std.proofs.Math.Seq.{drop-drop}
 use Rattle.std.proofs.lemmas.Bool.{eqb-false}
+use Rattle.std.specs.List.{prefix_len}
+use Rattle.std.specs.Prelude.{Option, Some, None}
+use Rattle.std.proofs.lemmas.List.Sums.{prefix_len-le-length}
 use Rattle.model.specs.Text.{blank, letter, digit, run_length, two_code, token_at, size_at, Lexeme, lexeme, words_from}
 use Rattle.laws.specs.Refusals.Laws.{by_bool, not-both}
 use Rattle.scanner.specs.declared.Scanned.{Scanned}
-use Rattle.scanner.specs.Scanning.{front, after_blanks, word_here, no_word, next_word, Next}
+use Rattle.scanner.specs.Scanning.{after_blanks, word_here, words_ahead, next_word, Next}
 
--- The front of a list ------------------------------------------------------------------------------------------------------------------
+-- What begins a list -------------------------------------------------------------------------------------------------------------------
 
 module _ (test : ℕ → Bool) where
-  front-in : (c : ℕ) (s : List ℕ) → test c ≡ true → front test (c ∷ s) ≡ suc (front test s)
-  unfolding front
-  front-in c s e = rw (e, front) refl
+  front-in : (c : ℕ) (s : List ℕ) → test c ≡ true → prefix_len test (c ∷ s) ≡ suc (prefix_len test s)
+  front-in c s e = rw e (omega arith)
 
-  front_out : (c : ℕ) (s : List ℕ) → test c ≡ false → front test (c ∷ s) ≡ 0
-  unfolding front
-  front_out c s e = rw (e, front) refl
+  front_out : (c : ℕ) (s : List ℕ) → test c ≡ false → prefix_len test (c ∷ s) ≡ 0
+  front_out c s e = rw e refl
 
-  pub front_length : (s : List ℕ) → front test s ≤ length s
-  unfolding front
-  front_length [] = omega arith
-  front_length (c ∷ s) =
-      by_bool (test c)
-      (λ z. rw (front-in c s z) (omega (arith, front_length s)))
-      (λ z. rw (front_out c s z) (omega arith))
+  pub front_length : (s : List ℕ) → prefix_len test s ≤ length s
+  front_length s = prefix_len-le-length test s
 
   -- what is left passes no more
-  pub front-left : (s : List ℕ) → front test (drop (front test s) s) ≡ 0
-  unfolding front
+  pub front-left : (s : List ℕ) → prefix_len test (drop (prefix_len test s) s) ≡ 0
   front-left [] = refl
   front-left (c ∷ s) =
       by_bool (test c)
@@ -44,23 +39,25 @@ module _ (test : ℕ → Bool) where
 
   -- the three steps of a loop that looks for the end
   module _ (s : List ℕ) {i : ℕ} where
-    pub front-more : i < length s → test (get_or s i 0) ≡ true → i + front test (drop i s) ≡ i + 1 + front test (drop (i + 1) s)
+    pub front-more : i < length s → test (get_or s i 0) ≡ true → i + prefix_len test (drop i s) ≡ i + 1 + prefix_len test (drop (i + 1) s)
     front-more h e = rw (add-one i, drop-cons s i 0 h, front-in (get_or s i 0) (drop (suc i) s) e) (omega arith)
 
-    pub front-stop : i < length s → test (get_or s i 0) ≡ false → i + front test (drop i s) ≡ i
+    pub front-stop : i < length s → test (get_or s i 0) ≡ false → i + prefix_len test (drop i s) ≡ i
     front-stop h e = rw (drop-cons s i 0 h, front_out (get_or s i 0) (drop (suc i) s) e) (omega arith)
 
-    pub front-end : length s ≤ i → i + front test (drop i s) ≡ i
-    unfolding front
+    pub front-end : length s ≤ i → i + prefix_len test (drop i s) ≡ i
     front-end h = rw (drop_of_length-le s h) (omega arith)
 
 abbrev pub in_run : ℕ → Bool
 in_run c = letter c || digit c
 
-pub run-front : (s : List ℕ) → run_length s ≡ front in_run s
-unfolding run_length front
+pub run-front : (s : List ℕ) → run_length s ≡ prefix_len in_run s
+unfolding run_length
 run-front [] = refl
-run-front (c ∷ s) = ap (λ (n : ℕ). elim (in_run c) [ true ↦ suc n | false ↦ 0 ]) (run-front s)
+run-front (c ∷ s) =
+    by_bool (in_run c)
+    (λ z. rw (run_length, z) (omega (arith, run-front s)))
+    (λ z. rw (run_length, z) refl)
 
 -- The size of a word -------------------------------------------------------------------------------------------------------------------
 
@@ -92,7 +89,7 @@ size-bounds s h =
     (λ z. by_bool (eqb (two_code (get_or s 0 0) (get_or s 1 0)) 0)
     (λ y. rw (size-one s z y) (omega arith, omega arith))
     (λ y. rw (size-two s z y) (omega arith, two_bytes s y)))
-    (λ z. rw (size-run s z) (omega (arith, eqb-false (run_length s) 0 z), rw (run-front s) (front_length in_run s)))
+    (λ z. rw (size-run s z) (omega (arith, eqb-false (run_length s) 0 z), rw (run-front s) (prefix_len-le-length in_run s)))
 
 -- Words --------------------------------------------------------------------------------------------------------------------------------
 
@@ -113,19 +110,20 @@ words-skip zero p i s = let e : i + 0 ≡ i = omega arith in rw e refl
 words-skip (suc k) p i [] = refl
 words-skip (suc k) p i (c ∷ s) = let e : i + 1 + k ≡ i + suc k = omega arith in words-skip k p (i + 1) s ∙ rw e refl
 
-pub words-blanks : (p i : ℕ) (s : List ℕ) → words_from 0 p i s ≡ words_from 0 p (i + front blank s) (drop (front blank s) s)
-unfolding words_from front
+pub words-blanks : (p i : ℕ) (s : List ℕ) → words_from 0 p i s ≡ words_from 0 p (i + prefix_len blank s) (drop (prefix_len blank s) s)
+unfolding words_from
 words-blanks p i [] = refl
 words-blanks p i (c ∷ s) =
     by_bool (blank c)
-    (λ z. let e : i + suc (front blank s) ≡ i + 1 + front blank s = omega arith in
-    rw (words-blank p i c s z, front-in blank c s z, e) (words-blanks p (i + 1) s))
-    (λ z. let e : i + 0 ≡ i = omega arith in rw (front_out blank c s z, e) refl)
+    (λ z. let e : i + (1 + prefix_len blank s) ≡ i + 1 + prefix_len blank s = omega arith in
+    let f : 1 + prefix_len blank s ≡ suc (prefix_len blank s) = omega arith in
+    rw (words-blank p i c s z, z, e, f) (words-blanks p (i + 1) s))
+    (λ z. let e : i + 0 ≡ i = omega arith in rw (z, e) refl)
 
-not-blank : (c : ℕ) (s : List ℕ) → front blank (c ∷ s) ≡ 0 → blank c ≡ false
-not-blank c s e = by_bool (blank c) (λ z. absurd (omega (arith, front-in blank c s z))) (λ z. z)
+not-blank : (c : ℕ) (s : List ℕ) → prefix_len blank (c ∷ s) ≡ 0 → blank c ≡ false
+not-blank c s e = by_bool (blank c) (λ z. absurd (omega (arith, rw z at e))) (λ z. z)
 
-pub words-first : (p i : ℕ) (s : List ℕ) → 0 < length s → front blank s ≡ 0
+pub words-first : (p i : ℕ) (s : List ℕ) → 0 < length s → prefix_len blank s ≡ 0
     → words_from 0 p i s ≡ lexeme (token_at p s) i ∷ words_from 0 (token_at p s).code (i + size_at s) (drop (size_at s) s)
 words-first p i [] h e = absurd (omega arith)
 words-first p i (c ∷ s) h e =
@@ -145,42 +143,29 @@ module _ (text : List ℕ) (from p : ℕ) where
   words_left : words_from 0 p from (drop from text) ≡ words_from 0 p (after_blanks from text) (drop (after_blanks from text) text)
   words_left = words-blanks p from (drop from text) ∙ rw drop-drop refl
 
-  next_word_lem : after_blanks from text < length text → Next text from p (word_here p (after_blanks from text) text)
-  unfolding word_here
-  next_word_lem h =
+  next-some : after_blanks from text < length text → Next text from p (Some (word_here p (after_blanks from text) text))
+  unfolding word_here words_ahead
+  next-some h =
       let place = after_blanks from text in
       let s = drop place text in
       let some : 0 < length s = simp length-drop (omega arith) in
-      let bare : front blank s ≡ 0 = rw (← drop-drop (front blank (drop from text)) from text) (front-left blank (drop from text)) in
+      let bare : prefix_len blank s ≡ 0 = rw (← drop-drop (prefix_len blank (drop from text)) from text) (front-left blank (drop from text)) in
       let first : words_from 0 p place s ≡ lexeme (token_at p s) place ∷ words_from 0 (token_at p s).code (place + size_at s) (drop (place + size_at s) text) =
       rw (← drop-drop (size_at s) place text) (words-first p place s some bare) in
       let size = size-bounds s some in
       let long : size_at s ≤ length text - place = rw (length-drop place text) at size.1 in
-      record {
-        word = λ e. words_left ∙ first;
-        none = λ e. not-both refl e;
-        after = omega arith;
-        nonempty = λ e. omega (arith, size.0);
-        within = λ e. omega (arith, long);
-      }
+      record { words = words_left ∙ first; stands = (omega arith, omega (arith, size.0), omega (arith, long)) }
 
-  next-none : length text ≤ after_blanks from text → Next text from p (no_word (after_blanks from text))
-  unfolding words_from
-  next-none h =
-      record {
-        word = λ e. not-both e refl;
-        none = λ e. words_left ∙ rw (drop_of_length-le text h) refl;
-        after = omega arith;
-        nonempty = λ e. not-both e refl;
-        within = λ e. not-both e refl;
-      }
+  next-none : length text ≤ after_blanks from text → Next text from p None
+  unfolding words_from words_ahead
+  next-none h = record { words = words_left ∙ rw (drop_of_length-le text h) refl; stands = tt }
 
   found-next : Next text from p (next_word p from text)
   unfolding next_word
   found-next =
       by_bool (ltb (after_blanks from text) (length text))
-      (λ z. rw z (next_word_lem (ltb-true _ _ z)))
+      (λ z. rw z (next-some (ltb-true _ _ z)))
       (λ z. rw z (next-none (ltb-false _ _ z)))
 
-  pub next : {r : Scanned} → r ≡ next_word p from text → Next text from p r
+  pub next : {r : Option Scanned} → r ≡ next_word p from text → Next text from p r
   next e = rw e found-next

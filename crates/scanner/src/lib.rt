@@ -3,17 +3,15 @@
 #![tactic(auto)]
 
 ghost use Rattle.std.specs.Prelude.{◌≡◌, true, ◌+◌, ◌≤◌, ◌<◌, length, get_or, drop};
-ghost use Rattle.model.specs.Text.{blank, digit, letter, run_length, all_digits, value_from, is_number, is_name, same, word_code, two_code, one_code, limit_after, run_token, words_of, outside};
-ghost use Rattle.scanner.specs.Scanning.{after_blanks, word_here, next_word};
+ghost use Rattle.model.specs.Text.{blank, digit, letter, run_length, all_digits, value_from, word_code, two_code, one_code, limit_after, run_token, words_of, outside};
+ghost use Rattle.scanner.specs.Scanning.{after_blanks, number_of, name_of, word_here, next_word};
 
 use model::texts::Token;
-use model::{Checked, Refusal};
+use model::{Checked, refuse};
 
-// A word that was found: its token, the place of its first byte and the place after its last. Where there is none, both places are
-// behind the blanks.
+// A word: its token, the place of its first byte and the place after its last.
 #[derive(Drop)]
 pub struct Scanned {
-    pub found: bool,
     pub token: Token,
     pub place: usize,
     pub end: usize,
@@ -21,58 +19,56 @@ pub struct Scanned {
 
 // Characters -----------------------------------------------------------------------------------------------------------------------------
 
+#[tactic(auto, unfolding(model::specs::Text::blank))]
 fn is_blank(c: u8) -> bool
     ensures { result ≡ blank c }
 {
     (c == b' ') | (c == b'\n')
 }
 
+#[tactic(auto, unfolding(model::specs::Text::digit))]
 fn is_digit(c: u8) -> bool
     ensures { result ≡ digit c }
 {
-    (b'0' <= c) & (c <= b'9')
+    c.is_ascii_digit()
 }
 
+#[tactic(auto, unfolding(model::specs::Text::letter))]
 fn is_letter(c: u8) -> bool
     ensures { result ≡ letter c }
 {
-    ((b'A' <= c) & (c <= b'Z')) | ((b'a' <= c) & (c <= b'z'))
+    c.is_ascii_alphabetic()
 }
 
 // The byte at i, 0 after the end.
 fn byte_at(text: &[u8], i: usize) -> u8
     ensures { result ≡ get_or text.now i 0 }
 {
-    if i < text.len() { text[i] } else { 0 }
+    text.get(i).copied().unwrap_or(0)
+}
+
+// The bytes from i on, none behind the end.
+fn behind(text: &[u8], i: usize) -> &[u8]
+    ensures { result.now ≡ drop i text.now }
+{
+    text.get(i..).unwrap_or(&[])
 }
 
 // The place after the blanks from i on.
 fn skip_blanks(text: &[u8], i: usize) -> usize
     ensures { result ≡ after_blanks i text.now }
 {
-    let mut j = i;
-    while j < text.len() {
-        if !is_blank(text[j]) {
-            return j;
-        }
-        j += 1;
-    }
-    j
+    i + behind(text, i).iter().take_while(|c| is_blank(**c)).count()
 }
 
 // The place after the letters and digits from i on.
 fn run_end(text: &[u8], i: usize) -> usize
     ensures { result ≡ i + run_length (drop i text.now) }
 {
-    let mut j = i;
-    while j < text.len() {
-        let c = text[j];
-        if !(is_letter(c) | is_digit(c)) {
-            return j;
-        }
-        j += 1;
-    }
-    j
+    i + behind(text, i)
+        .iter()
+        .take_while(|c| is_letter(**c) | is_digit(**c))
+        .count()
 }
 
 // Runs of letters and digits -------------------------------------------------------------------------------------------------------------
@@ -80,14 +76,7 @@ fn run_end(text: &[u8], i: usize) -> usize
 fn all_digits(w: &[u8]) -> bool
     ensures { result ≡ all_digits w.now }
 {
-    let mut i: usize = 0;
-    while i < w.len() {
-        if !is_digit(w[i]) {
-            return false;
-        }
-        i += 1;
-    }
-    true
+    w.iter().all(|c| is_digit(*c))
 }
 
 // The number that digits stand for.
@@ -96,89 +85,65 @@ fn value(w: &[u8]) -> u32
     ensures { result ≡ value_from 0 w.now }
 {
     let mut v: u32 = 0;
-    let mut i: usize = 0;
-    while i < w.len() {
-        v = 10 * v + (w[i] - b'0') as u32;
-        i += 1;
+    for c in w {
+        v = 10 * v + u32::from(*c - b'0');
     }
     v
 }
 
-fn is_number(w: &[u8], limit: u32) -> bool
-    ensures { result ≡ is_number limit w.now }
+// The number that a run is, if it is one.
+fn number(w: &[u8], limit: u16) -> Option<u16>
+    ensures { result ≡ number_of limit w.now }
 {
     let n = w.len();
     if (n == 0) | (5 < n) {
-        return false;
+        return None;
     }
     if !all_digits(w) {
-        return false;
+        return None;
     }
     if (1 < n) & (w[0] == b'0') {
-        return false;
+        return None;
     }
-    value(w) <= limit
+    let v = value(w);
+    if v <= u32::from(limit) {
+        Some(v as u16)
+    } else {
+        None
+    }
 }
 
-fn is_name(w: &[u8]) -> bool
-    ensures { result ≡ is_name w.now }
+// The number of the variable that a run names, if it names one.
+fn name(w: &[u8]) -> Option<u16>
+    ensures { result ≡ name_of w.now }
 {
-    if byte_at(w, 0) != b'x' {
-        return false;
+    match w {
+        [b'x', digits @ ..] => number(digits, 15),
+        _ => None,
     }
-    is_number(&w[1..], 15)
 }
 
-fn same(w: &[u8], word: &[u8]) -> bool
-    ensures { result ≡ same w.now word.now }
-{
-    if w.len() != word.len() {
-        return false;
-    }
-    let mut i: usize = 0;
-    while i < w.len() {
-        if w[i] != word[i] {
-            return false;
-        }
-        i += 1;
-    }
-    true
-}
-
+#[tactic(auto, using(crate::proofs::Codes::by_length))]
 fn word_code(w: &[u8]) -> u8
     ensures { result ≡ word_code w.now }
 {
-    if same(w, b"ok") {
-        return 16;
+    match w {
+        b"ok" => 16,
+        b"tick" => 17,
+        b"if" => 21,
+        b"while" => 22,
+        b"repeat" => 23,
+        b"then" => 32,
+        b"else" => 33,
+        b"do" => 34,
+        b"until" => 35,
+        b"end" => 36,
+        _ => 0,
     }
-    if same(w, b"tick") {
-        return 17;
-    }
-    if same(w, b"if") {
-        return 21;
-    }
-    if same(w, b"while") {
-        return 22;
-    }
-    if same(w, b"repeat") {
-        return 23;
-    }
-    if same(w, b"then") {
-        return 32;
-    }
-    if same(w, b"else") {
-        return 33;
-    }
-    if same(w, b"do") {
-        return 34;
-    }
-    if same(w, b"until") {
-        return 35;
-    }
-    if same(w, b"end") { 36 } else { 0 }
 }
 
-fn limit_after(previous: u8) -> u32
+#[tactic(auto, unfolding(model::specs::Text::limit_after))]
+fn limit_after(previous: u8) -> u16
     ensures { result ≡ limit_after previous }
 {
     if (previous == 37) | (previous == 17) {
@@ -191,17 +156,11 @@ fn limit_after(previous: u8) -> u32
 fn run_token(w: &[u8], previous: u8) -> Token
     ensures { result ≡ run_token previous w.now }
 {
-    if is_number(w, limit_after(previous)) {
-        return Token {
-            code: 1,
-            value: value(w) as u16,
-        };
+    if let Some(value) = number(w, limit_after(previous)) {
+        return Token { code: 1, value };
     }
-    if is_name(w) {
-        return Token {
-            code: 2,
-            value: value(&w[1..]) as u16,
-        };
+    if let Some(value) = name(w) {
+        return Token { code: 2, value };
     }
     Token {
         code: word_code(w),
@@ -209,17 +168,20 @@ fn run_token(w: &[u8], previous: u8) -> Token
     }
 }
 
-// Signs ----------------------------------------------------------------------------------------------------------------------------------
+// Signs: their codes, 0 where there is none, as the definitions of model/Text have it ----------------------------------------------------
 
+#[tactic(auto, unfolding(model::specs::Text::two_code))]
 fn two_code(c: u8, d: u8) -> u8
     ensures { result ≡ two_code c d }
 {
-    if (c == b':') & (d == b'=') {
-        return 18;
+    match (c, d) {
+        (b':', b'=') => 18,
+        (b'|', b'|') => 20,
+        _ => 0,
     }
-    if (c == b'|') & (d == b'|') { 20 } else { 0 }
 }
 
+#[tactic(auto, unfolding(model::specs::Text::one_code))]
 fn one_code(c: u8) -> u8
     ensures { result ≡ one_code c }
 {
@@ -251,18 +213,12 @@ fn word_at(text: &[u8], place: usize, previous: u8) -> Scanned
     let end = run_end(text, place);
     if place < end {
         let token = run_token(&text[place..end], previous);
-        return Scanned {
-            found: true,
-            token,
-            place,
-            end,
-        };
+        return Scanned { token, place, end };
     }
     let c = text[place];
     let two = two_code(c, byte_at(text, place + 1));
     if two == 0 {
         return Scanned {
-            found: true,
             token: Token {
                 code: one_code(c),
                 value: 0,
@@ -272,7 +228,6 @@ fn word_at(text: &[u8], place: usize, previous: u8) -> Scanned
         };
     }
     Scanned {
-        found: true,
         token: Token {
             code: two,
             value: 0,
@@ -283,18 +238,15 @@ fn word_at(text: &[u8], place: usize, previous: u8) -> Scanned
 }
 
 // The first word from a place on, after a token of code `previous`.
-pub fn next_word(text: &[u8], from: usize, previous: u8) -> Scanned
+#[tactic(auto, unfolding(crate::specs::Scanning::next_word))]
+pub fn next_word(text: &[u8], from: usize, previous: u8) -> Option<Scanned>
     ensures { result ≡ next_word previous from text.now }
 {
     let place = skip_blanks(text, from);
     if place < text.len() {
-        return word_at(text, place, previous);
-    }
-    Scanned {
-        found: false,
-        token: Token { code: 0, value: 0 },
-        place,
-        end: place,
+        Some(word_at(text, place, previous))
+    } else {
+        None
     }
 }
 
@@ -304,19 +256,13 @@ pub fn check_words(text: &[u8]) -> Checked
 {
     let mut at: usize = 0;
     let mut previous: u8 = 0;
-    while at < text.len() {
-        let next = next_word(text, at, previous);
-        if !next.found {
-            return Checked::Accepted;
-        }
+    // no `for`: where a word begins, and how it is read, hangs on the one before
+    while let Some(next) = next_word(text, at, previous) {
         if next.token.code == 0 {
-            return Checked::Refused(Refusal {
-                number: 17,
-                place: next.place,
-            });
+            return refuse(17, next.place);
         }
         previous = next.token.code;
         at = next.end;
     }
-    Checked::Accepted
+    Ok(())
 }

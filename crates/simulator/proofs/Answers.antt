@@ -1,4 +1,6 @@
 -- Answers of runs: what a state shows, and the results of continuings and full runs. Assumes nothing.
+use Rattle.model.specs.Refusals.{Accepted}
+use Rattle.std.specs.Prelude.{Err}
 use mathlib.Core.Bool.{Bool, true, false}
 use mathlib.Core.List.{List}
 use mathlib.Core.Path.{◌≡◌, refl, ◌∙◌, ap}
@@ -6,7 +8,6 @@ use Prim.Native.Nat.{ℕ, ◌+◌}
 use Rattle.model.specs.declared.Format.{Format}
 use Rattle.model.specs.declared.Format.TheVariants.{Full}
 use Rattle.model.specs.declared.Refusal.{Refusal}
-use Rattle.model.specs.declared.Checked.TheVariants.{Accepted, Refused}
 use Rattle.model.specs.declared.Outcome.TheVariants.{Ended, Open}
 use Rattle.model.specs.Word.{pick}
 use Rattle.model.specs.Circuit.{high}
@@ -23,7 +24,7 @@ answer-shows F file s n b t words h e f = rw (h, e, f) refl
 
 -- what a continuing tells
 module _ (F : Format) (file : List ℕ) (c : Course) where
-  pub told-refused : (r : Refusal) → c.check ≡ Refused r → told F file c ≡ refused_answer r
+  pub told-refused : (r : Refusal) → c.check ≡ Err r → told F file c ≡ refused_answer r
   unfolding running
   told-refused r e = rw e refl
 

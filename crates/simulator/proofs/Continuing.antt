@@ -1,5 +1,8 @@
 -- Turns of a continuing: what is left to evaluate, from the state so far; and where 26 ends one, the same again up to its last good instant.
 -- Assumes nothing.
+use Rattle.model.specs.Refusals.{Checked, Accepted}
+use Rattle.std.specs.Prelude.{Ok, Err}
+use Rattle.std.specs.Result.{is_err}
 use mathlib.Core.Bool.{Bool, true, false}
 use mathlib.Core.List.{List}
 use mathlib.Core.Path.{◌≡◌, refl, sym, ◌∙◌, ap, ap₂}
@@ -8,23 +11,30 @@ use native.Mathlib.Omega.{arith}
 use Rattle.model.specs.declared.Format.{Format}
 use Rattle.model.specs.declared.Format.TheVariants.{Full}
 use Rattle.model.specs.declared.Refusal.{Refusal}
-use Rattle.model.specs.declared.Checked.{Checked}
-use Rattle.model.specs.declared.Checked.TheVariants.{Accepted, Refused}
 use Rattle.model.specs.Circuit.{Netlist, high}
 use Rattle.model.specs.State.{Course, course, longer, now_at, step_state, crowding, continued}
-use Rattle.laws.specs.Refusals.Laws.{by_bool}
+use Rattle.laws.specs.Refusals.Laws.{by_bool, not-both}
 use Rattle.simulator.specs.Levels.{continued_with}
 
 -- a check that accepts refuses nothing
-pub accepts-none : {A : Type 0} {r : Refusal} → ◌≡◌ {A = Checked} Accepted (Refused r) → A
-accepts-none {A} {r} e = absurd (zero_one (ap (λ (c : Checked). elim c as (λ z. ℕ) [ Accepted ↦ 0 | Refused q ↦ 1 ]) e))
+pub accepts-none : {A : Type 0} {r : Refusal} → ◌≡◌ {A = Checked} Accepted (Err r) → A
+accepts-none {A} {r} e = absurd (zero_one (ap (λ (c : Checked). elim c as (λ z. ℕ) [ Ok _ ↦ 0 | Err q ↦ 1 ]) e))
   where
     zero_one : ◌≡◌ {A = ℕ} 0 1 → ⊥
     zero_one z = omega arith
 
-by-check : {A : Type 0} (c : Checked) → (c ≡ Accepted → A) → ((r : Refusal) → c ≡ Refused r → A) → A
-by-check Accepted p q = p refl
-by-check (Refused r) p q = q r refl
+-- by the test of a check
+pub failed : (c : Checked) → is_err c ≡ true → (r : Refusal) × (c ≡ Err r)
+failed (Ok _) e = not-both e refl
+failed (Err r) e = (r, refl)
+
+pub passed : (c : Checked) → is_err c ≡ false → c ≡ Accepted
+passed (Ok _) e = refl
+passed (Err r) e = not-both refl e
+
+by-check : {A : Type 0} (c : Checked) → (c ≡ Accepted → A) → ((r : Refusal) → c ≡ Err r → A) → A
+by-check (Ok _) p q = p refl
+by-check (Err r) p q = q r refl
 
 module _ (F : Format) (net : Netlist) (starts : Bool) (f : ℕ) where
   abbrev C : ℕ → List ℕ → Course
@@ -37,11 +47,11 @@ module _ (F : Format) (net : Netlist) (starts : Bool) (f : ℕ) where
     abbrev onward : Checked → Bool → Course
     onward c b =
         elim c as (λ z. Course) [
-          | Accepted ↦ elim b as (λ z. Course) [ true ↦ course Accepted t 1 | false ↦ longer (C n t) ]
-          | Refused r ↦ course (Refused r) s 0
+          | Ok _ ↦ elim b as (λ z. Course) [ true ↦ course Accepted t 1 | false ↦ longer (C n t) ]
+          | Err r ↦ course (Err r) s 0
         ]
 
-    crowded-turn : (r : Refusal) → crowding F net s t ≡ Refused r → C (suc n) s ≡ course (Refused r) s 0
+    crowded-turn : (r : Refusal) → crowding F net s t ≡ Err r → C (suc n) s ≡ course (Err r) s 0
     unfolding continued_with
     crowded-turn r e = ap (λ (c : Checked). onward c (high (now_at F t f))) e
 
@@ -62,12 +72,6 @@ module _ (F : Format) (net : Netlist) (starts : Bool) (f : ℕ) where
     pub few : count ≤ n
     pub rest : C n s ≡ later count (C (n - count) t)
 
-  pub going-none : (n : ℕ) (s : List ℕ) → Going n s s 0
-  going-none n s = let e : n - 0 ≡ n = omega arith in record { few = omega arith; rest = rw e (same (C n s)) }
-    where
-      same : (c : Course) → c ≡ later 0 c
-      same c = let e : 0 + c.count ≡ c.count = omega arith in rw e refl
-
   module _ {n : ℕ} {s t : List ℕ} {count : ℕ} (p : Going n s t count) where
     module _ (l : count < n) where
       abbrev u : List ℕ
@@ -79,10 +83,10 @@ module _ (F : Format) (net : Netlist) (starts : Bool) (f : ℕ) where
       turned : C n s ≡ later count (C (suc (n - (count + 1))) t)
       turned = p.rest ∙ ap (λ (m : ℕ). later count (C m t)) left
 
-      pub going-crowded : (r : Refusal) → crowding F net t u ≡ Refused r → C n s ≡ course (Refused r) t count
+      pub going-crowded : (r : Refusal) → crowding F net t u ≡ Err r → C n s ≡ course (Err r) t count
       going-crowded r e =
           let z : count + 0 ≡ count = omega arith in
-          turned ∙ ap (later count) (crowded-turn (n - (count + 1)) t r e) ∙ ap (course (Refused r) t) z
+          turned ∙ ap (later count) (crowded-turn (n - (count + 1)) t r e) ∙ ap (course (Err r) t) z
 
       pub going-high : crowding F net t u ≡ Accepted → high (now_at F u f) ≡ true → C n s ≡ course Accepted u (count + 1)
       going-high e h = turned ∙ ap (later count) (high-turn (n - (count + 1)) t e h)
@@ -120,7 +124,7 @@ module _ (F : Format) (net : Netlist) (starts : Bool) (f : ℕ) where
   none-check s = refl
 
   -- the good instants, once more
-  pub again : (n : ℕ) (s : List ℕ) (r : Refusal) → (C n s).check ≡ Refused r → C (C n s).count s ≡ course Accepted (C n s).state (C n s).count
+  pub again : (n : ℕ) (s : List ℕ) (r : Refusal) → (C n s).check ≡ Err r → C (C n s).count s ≡ course Accepted (C n s).state (C n s).count
   again zero s r e = accepts-none (sym (none-check s) ∙ e)
   again (suc n) s r e =
       let t = step_state F net starts s in
@@ -130,7 +134,7 @@ module _ (F : Format) (net : Netlist) (starts : Bool) (f : ℕ) where
       (λ h. accepts-none (rw (high-turn n s a h) at e))
       (λ h.
       let z = low_turn n s a h in
-      let q : (C n t).check ≡ Refused r = rw z at e in
+      let q : (C n t).check ≡ Err r = rw z at e in
       let m : 1 + (C n t).count ≡ suc (C n t).count = omega arith in
       rw (z, m) (low_turn (C n t).count s a h ∙ ap longer (again n t r q) ∙ ap (course Accepted (C n t).state) m)))
       (λ q a. rw (crowded-turn n s q a) (unfold continued_with in refl))
@@ -156,6 +160,6 @@ with_none F net f zero s = refl
 with_none F net f (suc n) s =
     let t = step_state F net false s in
     ap (λ (c : Course). elim (crowding F net s t) as (λ z. Course) [
-      | Accepted ↦ elim (high (now_at F t f)) as (λ z. Course) [ true ↦ course Accepted t 1 | false ↦ longer c ]
-      | Refused r ↦ course (Refused r) s 0
+      | Ok _ ↦ elim (high (now_at F t f)) as (λ z. Course) [ true ↦ course Accepted t 1 | false ↦ longer c ]
+      | Err r ↦ course (Err r) s 0
     ]) (with_none F net f n t)

@@ -13,9 +13,8 @@ use Rattle.model.specs.declared.Cell.{Cell}
 use Rattle.model.specs.declared.Merge.{Merge}
 use Rattle.model.specs.declared.Format.{Format}
 use Rattle.model.specs.declared.Format.TheVariants.{Full, Compact}
-use Rattle.model.specs.declared.Checked.TheVariants.{Accepted}
 use Rattle.model.specs.Word.{bit}
-use Rattle.model.specs.Refusals.{first_fault, fault_if}
+use Rattle.model.specs.Refusals.{first_fault, fault_if, Accepted}
 use Rattle.model.specs.Circuit.{Netlist, cell_at, high}
 use Rattle.model.specs.State.{remaining_at, flight_of, flight_in, now_at, held_at, left_at, line_at, crowded, crowding}
 use Rattle.laws.specs.Refusals.Laws.{by_bool, by_le, faultless}

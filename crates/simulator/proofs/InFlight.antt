@@ -14,8 +14,7 @@ use Rattle.model.specs.declared.Merge.{Merge}
 use Rattle.model.specs.declared.Merged.{Merged}
 use Rattle.model.specs.declared.Format.{Format}
 use Rattle.model.specs.declared.Format.TheVariants.{Full, Compact}
-use Rattle.model.specs.declared.Checked.TheVariants.{Accepted}
-use Rattle.model.specs.Refusals.{refuse}
+use Rattle.model.specs.Refusals.{refuse, Accepted}
 use Rattle.model.specs.Circuit.{remaining_step, Netlist, cell_at, high, shape, merges, step_of}
 use Rattle.model.specs.Word.{bit, put32}
 use Rattle.model.specs.State.{remaining_at, before_at, instant_of, flight_of, cell_size, base, now_at, held_at, left_at, line_bit, value, first_value, up_to, aged, shown, settled, held_bits, holding, settle, flight, counted, blank, begin_state, step_state, crowding}

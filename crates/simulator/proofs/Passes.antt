@@ -2,15 +2,16 @@
 use mathlib.Core.List.{List, ◌++◌, append_assoc}
 use mathlib.Core.Logic.{◌⊎◌, inl, inr}
 use mathlib.Core.Path.{◌≡◌, refl, sym, ◌∙◌, ap}
-use Prim.Native.Nat.{ℕ, zero, suc, ◌+◌, ◌-◌, ◌*◌, ◌<◌, ◌≤◌}
+use Prim.Native.Nat.{ℕ, zero, suc, ◌+◌, ◌*◌, ◌/◌, ◌%◌, ◌<◌, ◌≤◌}
 use native.Mathlib.Omega.{arith}
 use native.Mathlib.Decide.{dec_lt}
 use native.Mathlib.Numerals.{add-one}
 use lib.ListN.{length, get_or, take, drop, replicate, length-take}
-use lib.Seq.{sets, sets-eq, drop_at}
+use lib.Seq.{sets, sets-eq, drop_at, drop-cons}
 use Rattle.model.specs.Circuit.{Netlist}
 use Rattle.model.specs.declared.Format.{Format}
-use Rattle.model.specs.Word.{bytes16, put16}
+use Rattle.model.specs.Word.{bytes16, get16, Bytes}
+use Rattle.model.specs.Calls.{word_at}
 use Rattle.model.specs.State.{cell_size, base, now_at, first_value, up_to, shown, settled, counted, word_bytes, blank, evaluate, begin_state}
 use Rattle.laws.specs.State.Bytes.{get16-same, up_to-frame}
 use Rattle.laws.specs.State.Lines.{below, rising}
@@ -42,23 +43,24 @@ module _ {f : List ℕ → ℕ → List ℕ} {n : ℕ} {s : List ℕ} where
 
 -- Elements -----------------------------------------------------------------------------------------------------------------------------
 
-length-words : (words : ℕ → ℕ) (x n : ℕ) → length (word_bytes words x n) ≡ 2 * n
+pub length-words : (words : ℕ → ℕ) (x n : ℕ) → length (word_bytes words x n) ≡ 2 * n
 unfolding word_bytes bytes16
 length-words words x zero = refl
 length-words words x (suc n) = omega (arith, length-words words (x + 1) n)
 
--- words that are put in one after another, up to word n
-module _ (words : ℕ → ℕ) (d : List ℕ) (i x n : ℕ) where
-  pub words_more : x < n → sets d i (word_bytes words x (n - x)) ≡ sets (put16 d i (words x)) (i + 2) (word_bytes words (x + 1) (n - (x + 1)))
-  unfolding word_bytes bytes16 put16
-  words_more h =
-      let e : n - x ≡ suc (n - (x + 1)) = omega arith in
-      let f : i + 2 ≡ suc (suc i) = omega arith in
-      rw (e, f, add-one i) refl
-
-  pub words-done : n ≤ x → sets d i (word_bytes words x (n - x)) ≡ d
-  unfolding word_bytes
-  words-done h = let e : n - x ≡ 0 = omega arith in rw e refl
+-- the bytes of a list's words are the list's own
+pub words-bytes : (s : List ℕ) → Bytes s → (x n : ℕ) → 2 * x + 2 * n ≤ length s → word_bytes (word_at s) x n ≡ take (2 * n) (drop (2 * x) s)
+unfolding word_bytes bytes16 get16
+words-bytes s b x zero h = refl
+words-bytes s b x (suc n) h =
+    let low = b (2 * x) in
+    let e : 2 * suc n ≡ suc (suc (2 * n)) = omega arith in
+    let f : 2 * (x + 1) ≡ suc (suc (2 * x)) = omega arith in
+    let g : 2 * x + 1 ≡ suc (2 * x) = omega arith in
+    let p : (get_or s (2 * x) 0 + 256 * get_or s (suc (2 * x)) 0) % 256 ≡ get_or s (2 * x) 0 = omega (arith, low) in
+    let q : (get_or s (2 * x) 0 + 256 * get_or s (suc (2 * x)) 0) / 256 ≡ get_or s (suc (2 * x)) 0 = omega (arith, low) in
+    let rest = rw f at (words-bytes s b (x + 1) n (omega arith)) in
+    rw (e, g, p, q, rest, drop-cons s (2 * x) 0 (omega arith), drop-cons s (suc (2 * x)) 0 (omega arith)) refl
 
 -- the passes of instant 0
 module _ (F : Format) (net : Netlist) (n : ℕ) (e : length net.cells ≡ n) (s : List ℕ) where

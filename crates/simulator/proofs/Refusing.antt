@@ -1,5 +1,6 @@
 -- The checks of the calls: which one is found first, what is known when none is, and what a call then answers. Assumes nothing.
-use mathlib.Core.Bool.{Bool, true, false, not, ◌&&◌, ◌||◌}
+use Rattle.std.specs.Prelude.{Ok, Err}
+use mathlib.Core.Bool.{Bool, true, false, not}
 use mathlib.Core.List.{List, [], ◌∷◌, ◌++◌}
 use mathlib.Core.Path.{◌≡◌, refl, sym, ◌∙◌, ap}
 use Prim.Native.Nat.{ℕ, ◌+◌, ◌<◌, ◌≤◌}
@@ -11,12 +12,9 @@ use Rattle.model.specs.declared.Refusal.{Refusal}
 use Rattle.model.specs.declared.Format.{Format}
 use Rattle.model.specs.declared.Format.TheVariants.{Full, Compact}
 use Rattle.model.specs.declared.Answer.{Answer}
-use Rattle.model.specs.declared.Checked.{Checked}
-use Rattle.model.specs.declared.Checked.TheVariants.{Accepted, Refused}
-use Rattle.model.specs.Refusals.{refuse, refuse_if, first}
-use Rattle.model.specs.NetlistFile.{file_check, pulse_of, finish_of, net_of}
-use Rattle.model.specs.Circuit.{high}
-use Rattle.model.specs.State.{Course, now_at, base, state_size, instant_of, flight_of, sound}
+use Rattle.model.specs.Refusals.{refuse, refuse_if, first, Checked, Accepted}
+use Rattle.model.specs.NetlistFile.{file_check, net_of}
+use Rattle.model.specs.State.{Course, base, state_size, instant_of, flight_of, sound}
 use Rattle.model.specs.Calls.{is_too_long, format_check, Returned, short, refused_answer, shows, running, going_on, begin_checks, continue_checks, busy, start_checks, run_netlist_checks}
 use Rattle.laws.specs.Refusals.Laws.{not-false, or-false, first_one, first-append, all-accept, refuse-unless}
 use Rattle.laws.specs.NetlistFile.Passed.{count-cells}
@@ -64,21 +62,14 @@ module _ (F : Format) (file : List ℕ) (h : Header) (e : h ≡ header_of file) 
 
 -- a check that refuses, in front of others, and one that accepts
 module _ (rest : List Checked) {c : Checked} where
-  pub refuses : {r : Refusal} → c ≡ Refused r → Refused r ≡ first (c ∷ rest)
+  pub refuses : {r : Refusal} → c ≡ Err r → Err r ≡ first (c ∷ rest)
   refuses e = rw e refl
 
   pub accepts : {d : Checked} → c ≡ Accepted → d ≡ first rest → d ≡ first (c ∷ rest)
   accepts e f = rw e f
 
-module _ (words : List ℕ) (room : Checked) where
-  pub short-words : length words < 544 → refuse 14 0 ≡ first (short (length words) 544 ∷ room ∷ [])
-  short-words l = rw (lt-ltb (length words) 544 l) refl
-
-  pub long-words : 544 ≤ length words → room ≡ first (short (length words) 544 ∷ room ∷ [])
-  long-words l = rw (le-ltb (length words) 544 l) (first_one room)
-
 module _ (F : Format) (file : List ℕ) (n : ℕ) (lent : List ℕ) (e : file_check file ≡ Accepted) (g : format_check F file ≡ Accepted) where
-  pub continue-room : (r : Refusal) → short (length lent) (state_size F (net_of file)) ≡ Refused r → Refused r ≡ first (continue_checks F file n lent)
+  pub continue-room : (r : Refusal) → short (length lent) (state_size F (net_of file)) ≡ Err r → Err r ≡ first (continue_checks F file n lent)
   continue-room r l = rw (e, g, l) refl
 
   module _ (l : short (length lent) (state_size F (net_of file)) ≡ Accepted) where
@@ -95,11 +86,6 @@ module _ (F : Format) (file : List ℕ) (n : ℕ) (lent : List ℕ) (e : file_ch
 abbrev pub number_check : Format → List ℕ → List ℕ → List Checked
 number_check F file lent = refuse_if (busy F file lent) 23 0 ∷ []
 
--- from the number, the pulse length, the finish and its level
-pub busy-is : (F : Format) (file lent : List ℕ) (number w f : ℕ) (level : Bool) → number ≡ flight_of lent → w ≡ pulse_of file → f ≡ finish_of file → level ≡ high (now_at F lent f)
-    → busy F file lent ≡ ltb 0 number || (ltb 1 w && level)
-busy-is F file lent number w f level a b c d = rw (d, c, b, a) refl
-
 module _ (F : Format) (file lent : List ℕ) (e : first (continue_checks F file 1 lent) ≡ Accepted) where
   pub start-busy : busy F file lent ≡ true → refuse 23 0 ≡ first (start_checks F file lent)
   start-busy h = sym (first-append (continue_checks F file 1 lent) (number_check F file lent) e ∙ ap (λ (b : Bool). first (refuse_if b 23 0 ∷ [])) h)
@@ -108,9 +94,6 @@ module _ (F : Format) (file lent : List ℕ) (e : first (continue_checks F file 
   start_right h = sym (first-append (continue_checks F file 1 lent) (number_check F file lent) e ∙ ap (λ (b : Bool). first (refuse_if b 23 0 ∷ [])) h)
 
 module _ (file words : List ℕ) (n : ℕ) (lent : List ℕ) (e : file_check file ≡ Accepted) where
-  pub run-budget : 1000000 < n → refuse 13 0 ≡ first (run_netlist_checks file words n lent)
-  run-budget b = rw (e, lt-ltb 1000000 n b) refl
-
   pub run_lent : n ≤ 1000000 → first (drop 2 (run_netlist_checks file words n lent)) ≡ first (run_netlist_checks file words n lent)
   run_lent b = rw (e, le-ltb 1000000 n b) refl
 
@@ -122,8 +105,8 @@ long-enough has needs e = ltb-false has needs (refuse-unless (ltb has needs) 14 
 -- what accepts as a whole accepts in its first part
 accepted-front : (cs ds : List Checked) → first (cs ++ ds) ≡ Accepted → first cs ≡ Accepted
 accepted-front [] ds e = refl
-accepted-front (Accepted ∷ cs) ds e = accepted-front cs ds e
-accepted-front (Refused r ∷ cs) ds e = e
+accepted-front (Ok _ ∷ cs) ds e = accepted-front cs ds e
+accepted-front (Err r ∷ cs) ds e = e
 
 pub begin-accepted : (F : Format) (file words lent : List ℕ) → first (begin_checks F file words lent) ≡ Accepted → Runs F file lent × (544 ≤ length words)
 begin-accepted F file words lent e =
@@ -167,7 +150,7 @@ Tells told a t = (a ≡ told.answer) × (t ≡ told.lent)
 
 -- of a continuing that goes as c does, behind a check
 module _ (F : Format) (check : Checked) (file : List ℕ) (c : Course) (lent : List ℕ) (a : Answer) where
-  pub going-refused : (r : Refusal) → check ≡ Refused r → a ≡ refused_answer r → Tells (going_on F check file c lent) a lent
+  pub going-refused : (r : Refusal) → check ≡ Err r → a ≡ refused_answer r → Tells (going_on F check file c lent) a lent
   unfolding going_on
   going-refused r e p = rw e (p, refl)
 
@@ -176,12 +159,12 @@ module _ (F : Format) (check : Checked) (file : List ℕ) (c : Course) (lent : L
   going_done t e p q = rw e (p, q ∙ sym (left c.check))
     where
       left : (d : Checked) → (running F d file c.state c.count c.state).lent ≡ c.state
-      left Accepted = unfold running in refl
-      left (Refused r) = unfold running in refl
+      left (Ok _) = unfold running in refl
+      left (Err r) = unfold running in refl
 
 -- of a run that leaves s and counts n, behind a check
 module _ (F : Format) (c : Checked) (file s : List ℕ) (n : ℕ) (lent : List ℕ) (a : Answer) where
-  pub run-refused : (r : Refusal) → c ≡ Refused r → a ≡ refused_answer r → Tells (running F c file s n lent) a lent
+  pub run-refused : (r : Refusal) → c ≡ Err r → a ≡ refused_answer r → Tells (running F c file s n lent) a lent
   unfolding running
   run-refused r e p = rw e (p, refl)
 

@@ -1,6 +1,7 @@
 -- Further instants. One, as its three passes make it: refusal 26 is seen in the third as the model sees it from the state before and the state after, and
 -- what stands behind the state stays.
 -- Assumes nothing.
+use Rattle.std.specs.Prelude.{Err}
 use mathlib.Core.Bool.{Bool, false, ◌&&◌}
 use mathlib.Core.List.{List, ◌++◌}
 use mathlib.Core.Logic.{inr}
@@ -14,9 +15,8 @@ use borrow.Author.Tests.{eqb-true}
 use Rattle.model.specs.declared.Format.{Format}
 use Rattle.model.specs.declared.Format.TheVariants.{Full, Compact}
 use Rattle.model.specs.declared.Refusal.{Refusal}
-use Rattle.model.specs.declared.Checked.TheVariants.{Accepted, Refused}
 use Rattle.model.specs.Word.{put32}
-use Rattle.model.specs.Refusals.{first_fault}
+use Rattle.model.specs.Refusals.{first_fault, Accepted}
 use Rattle.model.specs.Circuit.{Netlist, cell_at, high}
 use Rattle.model.specs.State.{course, instant_of, base, now_at, fallen, left_at, value, up_to, aged, stored, shown, settled, counted, step_state, crowded, crowding}
 use Rattle.laws.specs.Refusals.Laws.{by_bool, and-true}
@@ -29,7 +29,7 @@ use Rattle.state.specs.Stands.{Ready}
 use Rattle.simulator.specs.Fits.{Spares, Continues}
 use Rattle.simulator.specs.Levels.{valued, continued_with}
 use Rattle.simulator.proofs.InFlight.{stepped-ready}
-use Rattle.simulator.proofs.Continuing.{Going, going-none, going-low, again}
+use Rattle.simulator.proofs.Continuing.{Going, going-low, again}
 use Rattle.simulator.proofs.Passes.{settled-values}
 
 faults-same : (f g : ℕ → ℕ) (i n : ℕ) → ((j : ℕ) → i ≤ j → j < i + n → f j ≡ g j) → first_fault f i n ≡ first_fault g i n
@@ -109,9 +109,6 @@ pub record Underway (F : Format) (net : Netlist) (starts : Bool) (f n : ℕ) (s 
   pub going : Going F net starts f n s t count
 
 module _ {F : Format} {net : Netlist} {starts : Bool} {f n : ℕ} {s : List ℕ} where
-  pub underway-none : ((j : ℕ) → get_or s j 0 < 256) → instant_of s + n ≤ 1000000 → Ready F net s → Underway F net starts f n s s 0
-  underway-none b h r = record { long = refl; bytes = b; instant = omega arith; ready = r; going = going-none F net starts f n s }
-
   pub underway-more : {t : List ℕ} {count : ℕ} (p : Underway F net starts f n s t count) → count < n → Ordered net.cells → base F (length net.cells) + 512 ≤ length s
       → (u : List ℕ) → length u ≡ length t → ((j : ℕ) → get_or u j 0 < 256) → crowding F net t (step_state F net starts t) ≡ Accepted → u ≡ step_state F net starts t
       → high (now_at F u f) ≡ false → Underway F net starts f n s u (count + 1)
@@ -144,6 +141,6 @@ again-asks F file h budget count s t e l p = rw e (p.0, omega (arith, p.1), p.2)
 
 -- and are
 pub redone : (F : Format) (net : Netlist) (starts : Bool) (f n count : ℕ) (s t : List ℕ) (r : Refusal) → t ≡ s → count ≡ (continued_with F net starts f n s).count
-    → (continued_with F net starts f n s).check ≡ Refused r
+    → (continued_with F net starts f n s).check ≡ Err r
     → continued_with F net starts f count t ≡ course Accepted (continued_with F net starts f n s).state (continued_with F net starts f n s).count
 redone F net starts f n count s t r e c z = rw (e, c) (again F net starts f n s r z)

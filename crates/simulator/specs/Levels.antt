@@ -1,10 +1,10 @@
 -- Continuing with a start level: `continued` of model/State, where each instant has a start pulse or each has none; and the first passes of an instant.
 -- A continuing is the case of none, a start the case of one instant with a pulse.
 -- Assumes nothing: definitions.
-use Rattle.std.specs.Prelude.{Bool, true, false, List, ℕ, zero, suc, length}
+use Rattle.model.specs.Refusals.{Accepted}
+use Rattle.std.specs.Prelude.{Bool, true, false, List, ℕ, zero, suc, length, Ok, Err}
 use Rattle.model.specs.declared.Format.{Format}
 use Rattle.model.specs.declared.Answer.{Answer}
-use Rattle.model.specs.declared.Checked.TheVariants.{Accepted, Refused}
 use Rattle.model.specs.Circuit.{Netlist, high}
 use Rattle.model.specs.State.{Course, course, longer, now_at, value, step_state, crowding}
 use Rattle.model.specs.Calls.{running}
@@ -19,8 +19,8 @@ continued_with F net starts f zero s = course Accepted s 0
 continued_with F net starts f (suc n) s =
     let t = step_state F net starts s in
     elim (crowding F net s t) [
-      | Accepted ↦ elim (high (now_at F t f)) [ true ↦ course Accepted t 1 | false ↦ longer (continued_with F net starts f n t) ]
-      | Refused r ↦ course (Refused r) s 0
+      | Ok _ ↦ elim (high (now_at F t f)) [ true ↦ course Accepted t 1 | false ↦ longer (continued_with F net starts f n t) ]
+      | Err r ↦ course (Err r) s 0
     ]
 
 -- what a call answers of it

@@ -9,7 +9,7 @@ ghost use Rattle.model.specs.Calls.{word_at};
 ghost use Rattle.simulator.specs.Fits.{Fits, Holds};
 
 use crate::instant;
-use model::sizes::BLOCK_HEADER;
+use model::sizes::{BLOCK_HEADER, ELEMENTS, START_WORDS, VARIABLES};
 use model::{Cell, Format};
 use netlist::header::Header;
 use state::wires;
@@ -19,11 +19,7 @@ fn clear(state: &mut [u8], n: usize)
     requires { n ≤ length state.old }
     ensures { state.new ≡ replicate n 0 ++ drop n state.old }
 {
-    let mut i: usize = 0;
-    while i < n {
-        state[i] = 0;
-        i += 1;
-    }
+    state[..n].fill(0);
 }
 
 // The start words of the elements, which follow the sixteen, are put in from i on.
@@ -31,14 +27,7 @@ fn put_elements(state: &mut [u8], i: usize, words: &[u8])
     requires { (i + 512 ≤ length state.old) × (544 ≤ length words.now) }
     ensures { state.new ≡ sets state.old i (word_bytes (word_at words.now) 16 256) }
 {
-    let mut to = i;
-    let mut x: usize = 16;
-    while x < 272 {
-        let v = word::get16(words, 2 * x);
-        word::put16(state, to, v);
-        to += 2;
-        x += 1;
-    }
+    state[i..i + ELEMENTS].copy_from_slice(&words[VARIABLES..START_WORDS]);
 }
 
 // What cell k, which is c, shows at instant 0; j memories stand below it.
@@ -55,11 +44,11 @@ fn first_value(
     requires { Holds format file.now h state.now k c × (544 ≤ length words.now) × (c.kind ≡ 40 → j < 16) }
     ensures { memories (take k (cells_of file.now)) ≡ j → result ≡ first_value format (net_of file.now) (word_at words.now) state.now k }
 {
-    let kind = c.kind;
-    if kind == 40 {
-        return word::get16(words, 2 * j);
+    if c.kind == 40 {
+        word::get16(words, 2 * j)
+    } else {
+        instant::next_value(format, file, h, true, c, state, k)
     }
-    instant::next_value(format, file, h, true, c, state, k)
 }
 
 // The k-th memory is variable k, so memories are counted on the way.
@@ -67,19 +56,16 @@ fn show_first(format: Format, file: &[u8], h: Header, words: &[u8], state: &mut 
     requires { Fits format file.now h state.old × (544 ≤ length words.now) }
     ensures { state.new ≡ up_to (shown format (net_of file.now) (first_value format (net_of file.now) (word_at words.now))) h.count state.old }
 {
-    let n = h.count;
-    let mut j: usize = 0;
-    let mut at: usize = BLOCK_HEADER;
-    let mut k: usize = 0;
-    while k < n {
+    let mut j = 0;
+    let mut at = BLOCK_HEADER;
+    for k in 0..h.count {
         let c = netlist::cells::cell_from(file, at);
         let v = first_value(format, file, h, c, words, state, k, j);
         at = netlist::cells::next_offset(at);
         instant::store(format, file, h, c, at, state, k);
         let to = wires::base(format, k);
         word::put16(state, to, v);
-        j += word::bit(c.kind == 40) as usize;
-        k += 1;
+        j += usize::from(c.kind == 40);
     }
 }
 
@@ -92,5 +78,5 @@ pub fn begin_state(format: Format, file: &[u8], h: Header, words: &[u8], state: 
     put_elements(state, end, words);
     clear(state, end);
     show_first(format, file, h, words, state);
-    instant::settle_all(format, file, h, state);
+    let _ = instant::settle_all(format, file, h, state);
 }

@@ -7,15 +7,9 @@ ghost use Rattle.model.specs.Calls.{is_too_long, short, begin_checks, continue_c
 ghost use Rattle.model.specs.NetlistFile.{cell_limit};
 
 use model::sizes::{ELEMENTS, LAST_INSTANT, START_WORDS};
-use model::{Checked, Format, Refusal};
+use model::{Checked, Format, Refusal, refuse};
 use netlist::header;
 use state::{sound, wires};
-
-pub fn refuse(number: u8) -> Checked
-    ensures { result ≡ refuse number 0 }
-{
-    Checked::Refused(Refusal { number, place: 0 })
-}
 
 // Refusal 14 of a state of n cells.
 fn check_room(format: Format, n: usize, state: &[u8]) -> Checked
@@ -23,9 +17,9 @@ fn check_room(format: Format, n: usize, state: &[u8]) -> Checked
     ensures { result ≡ short (length state.now) (base format n + 512) }
 {
     if state.len() < wires::base(format, n) + ELEMENTS {
-        return refuse(14);
+        return refuse(14, 0);
     }
-    Checked::Accepted
+    Ok(())
 }
 
 // Refusal 14 of start words and of a state of n cells.
@@ -34,7 +28,7 @@ fn check_lent(format: Format, n: usize, words: &[u8], state: &[u8]) -> Checked
     ensures { result ≡ first (short (length words.now) 544 ∷ short (length state.now) (base format n + 512) ∷ []) }
 {
     if words.len() < START_WORDS {
-        return refuse(14);
+        return refuse(14, 0);
     }
     check_room(format, n, state)
 }
@@ -44,28 +38,17 @@ fn check_format(format: Format, pulse: u8) -> Checked
     ensures { result ≡ refuse_if (is_too_long format pulse) 27 0 }
 {
     match format {
-        Format::Full => Checked::Accepted,
-        Format::Compact => {
-            if 1 < pulse {
-                return refuse(27);
-            }
-            Checked::Accepted
-        }
+        Format::Compact if 1 < pulse => refuse(27, 0),
+        _ => Ok(()),
     }
 }
 
 pub fn check_begin(format: Format, file: &[u8], words: &[u8], state: &[u8]) -> Checked
     ensures { result ≡ first (begin_checks format file.now words.now state.now) }
 {
-    let checked = netlist::check_file(file);
-    if let Checked::Refused(r) = checked {
-        return Checked::Refused(r);
-    }
+    netlist::check_file(file)?;
     let h = header::header_of(file);
-    let formed = check_format(format, h.pulse);
-    if let Checked::Refused(r) = formed {
-        return Checked::Refused(r);
-    }
+    check_format(format, h.pulse)?;
     check_lent(format, h.count, words, state)
 }
 
@@ -73,55 +56,40 @@ pub fn check_begin(format: Format, file: &[u8], words: &[u8], state: &[u8]) -> C
 pub fn check_continue(format: Format, file: &[u8], n: u32, state: &[u8]) -> Checked
     ensures { result ≡ first (continue_checks format file.now n state.now) }
 {
-    let checked = netlist::check_file(file);
-    if let Checked::Refused(r) = checked {
-        return Checked::Refused(r);
-    }
+    netlist::check_file(file)?;
     let h = header::header_of(file);
-    let formed = check_format(format, h.pulse);
-    if let Checked::Refused(r) = formed {
-        return Checked::Refused(r);
-    }
-    let room = check_room(format, h.count, state);
-    if let Checked::Refused(r) = room {
-        return Checked::Refused(r);
-    }
+    check_format(format, h.pulse)?;
+    check_room(format, h.count, state)?;
     if !sound::is_sound(format, file, h, state) {
-        return refuse(15);
+        return refuse(15, 0);
     }
     let t = word::get32(state, 0) as u64;
-    if 1000000 < t + (n as u64) {
-        return refuse(16);
+    if (LAST_INSTANT as u64) < t + (n as u64) {
+        return refuse(16, 0);
     }
-    Checked::Accepted
+    Ok(())
 }
 
 // A start's instant counts as a continuing by 1 does. With pulses of more than one instant it also waits for a low finish.
 pub fn check_start(format: Format, file: &[u8], state: &[u8]) -> Checked
     ensures { result ≡ first (start_checks format file.now state.now) }
 {
-    let checked = check_continue(format, file, 1, state);
-    if let Checked::Refused(r) = checked {
-        return Checked::Refused(r);
-    }
+    check_continue(format, file, 1, state)?;
     let h = header::header_of(file);
     let high = wires::is_high(format, state, h.finish);
     let long = 1 < h.pulse;
     if (0 < word::get32(state, 4)) | (long & high) {
-        return refuse(23);
+        return refuse(23, 0);
     }
-    Checked::Accepted
+    Ok(())
 }
 
 pub fn check_run(file: &[u8], words: &[u8], budget: u32, state: &[u8]) -> Checked
     ensures { result ≡ first (run_netlist_checks file.now words.now budget state.now) }
 {
-    let checked = netlist::check_file(file);
-    if let Checked::Refused(r) = checked {
-        return Checked::Refused(r);
-    }
+    netlist::check_file(file)?;
     if LAST_INSTANT < budget {
-        return refuse(13);
+        return refuse(13, 0);
     }
     let h = header::header_of(file);
     check_lent(Format::Full, h.count, words, state)

@@ -1,8 +1,8 @@
 // One further instant of a netlist file that is accepted, on a state of its size. The cells are read where the file is lent.
 // Three passes over the cells, each an equation with `up_to` of model/State. The third keeps the number in flight: it adds what comes in and
 // takes off what goes out, cell by cell; and it looks for refusal 26 on its way, where it leaves the instant unfinished.
-ghost use Rattle.std.specs.Prelude.{◌≡◌, ◌+◌, ◌*◌, ◌<◌, ◌≤◌, length};
-ghost use Rattle.model.specs.declared.Checked.TheVariants.{Accepted, Refused};
+ghost use Rattle.model.specs.Refusals.{Accepted};
+ghost use Rattle.std.specs.Prelude.{◌≡◌, ◌+◌, ◌*◌, ◌<◌, ◌≤◌, length, Err};
 ghost use Rattle.model.specs.declared.Refusal.{Refusal};
 ghost use Rattle.model.specs.Word.{element_of, put32};
 ghost use Rattle.model.specs.Circuit.{cell_at, shape};
@@ -16,10 +16,12 @@ ghost use Rattle.simulator.specs.Levels.{valued};
 
 use crate::keeping;
 use model::sizes::BLOCK_HEADER;
-use model::{Cell, Checked, Format, Refusal};
+use model::{Cell, Checked, Format, refuse};
 use netlist::cells::Layout;
 use netlist::header::Header;
 use state::{lines, wires};
+
+// A format, a file and its header stay parameters: so the functions of `state` take them, and the format of a state is one by design.
 
 // The element with index w, as it is now, of the array whose 42 is cell a.
 fn element_now(format: Format, file: &[u8], h: Header, a: usize, w: u16, state: &[u8]) -> u16
@@ -56,10 +58,12 @@ pub fn next_value(
     let a = c.a as usize;
     let b = c.b as usize;
     if kind == 40 {
-        if wires::has_fallen(format, state, a) {
-            return wires::before_at(format, state, b);
-        }
-        return wires::before_at(format, state, k);
+        let from = if wires::has_fallen(format, state, a) {
+            b
+        } else {
+            k
+        };
+        return wires::before_at(format, state, from);
     }
     let x = wires::now_at(format, state, a);
     let y = wires::now_at(format, state, b);
@@ -72,8 +76,7 @@ pub fn next_value(
         35 => word::bit((x == 1) | (y == 1)),
         36 => word::bit((x == 1) & (y != 0)),
         37 => word::bit((x == 1) & (y == 0)),
-        38 => wires::merged(format, state, k, h.pulse, kind, x == 1, y == 1),
-        39 => wires::merged(format, state, k, h.pulse, kind, x == 1, y == 1),
+        38 | 39 => wires::merged(format, state, k, h.pulse, kind, x == 1, y == 1),
         41 => if x == 1 { y } else { 0 },
         44 => element_now(format, file, h, a, y, state),
         45 => wires::latched(format, state, k, a, b),
@@ -94,15 +97,12 @@ pub fn store(
     requires { Holds format file.now h state.old k c × (next ≡ in_file (k + 1)) }
     ensures { state.new ≡ stored format (net_of file.now) state.old k }
 {
-    let kind = c.kind;
-    if kind == 42 {
-        if wires::has_fallen(format, state, c.a as usize) {
-            let address = netlist::cells::cell_from(file, next);
-            let w = wires::before_at(format, state, address.a as usize);
-            let v = wires::before_at(format, state, c.b as usize);
-            let place = wires::element_place(format, h.count, c.delay as usize, w);
-            word::put16(state, place, v);
-        }
+    if (c.kind == 42) && wires::has_fallen(format, state, c.a as usize) {
+        let address = netlist::cells::cell_from(file, next);
+        let w = wires::before_at(format, state, address.a as usize);
+        let v = wires::before_at(format, state, c.b as usize);
+        let place = wires::element_place(format, h.count, c.delay as usize, w);
+        word::put16(state, place, v);
     }
 }
 
@@ -120,7 +120,7 @@ pub fn settle(format: Format, pulse: u8, c: Cell, state: &mut [u8], k: usize, nu
         let x = wires::is_high(format, state, a);
         let out = lines::line_out(format, state, k, c.delay);
         lines::take_in(format, state, k, c.delay, x);
-        return number + (word::bit(x) as u32) - (out as u32);
+        return number + u32::from(x) - (out as u32);
     }
     if netlist::kinds::is_merge(kind) {
         let x = wires::is_high(format, state, a);
@@ -128,9 +128,8 @@ pub fn settle(format: Format, pulse: u8, c: Cell, state: &mut [u8], k: usize, nu
         let was = wires::before_at(format, state, k) == 1;
         let held = wires::held_at(format, state, k);
         let m = wires::merge_step(pulse, kind, was, held, x, y);
-        let next = m.held;
-        wires::hold(format, state, k, next);
-        return number + wires::held_bits(next) - wires::held_bits(held);
+        wires::hold(format, state, k, m.held);
+        return number + wires::held_bits(m.held) - wires::held_bits(held);
     }
     if kind == 32 {
         let high = wires::is_high(format, state, k);
@@ -159,12 +158,10 @@ fn age_all(format: Format, state: &mut [u8], n: usize)
     requires { (n ≤ cell_limit) × (base format n ≤ length state.old) }
     ensures { state.new ≡ up_to (aged format) n state.old }
 {
-    let mut k: usize = 0;
-    while k < n {
+    for k in 0..n {
         let v = wires::now_at(format, state, k);
         let at = wires::base(format, k);
         word::put16(state, at + 2, v);
-        k += 1;
     }
 }
 
@@ -173,17 +170,14 @@ fn show_all(format: Format, file: &[u8], h: Header, starts: bool, state: &mut [u
     requires { Fits format file.now h state.old }
     ensures { state.new ≡ up_to (shown format (net_of file.now) (value format (net_of file.now) starts)) h.count state.old }
 {
-    let n = h.count;
-    let mut at: usize = BLOCK_HEADER;
-    let mut k: usize = 0;
-    while k < n {
+    let mut at = BLOCK_HEADER;
+    for k in 0..h.count {
         let c = netlist::cells::cell_from(file, at);
         let v = next_value(format, file, h, starts, c, state, k);
         at = netlist::cells::next_offset(at);
         store(format, file, h, c, at, state, k);
         let to = wires::base(format, k);
         word::put16(state, to, v);
-        k += 1;
     }
 }
 
@@ -194,26 +188,18 @@ pub fn settle_all(format: Format, file: &[u8], h: Header, state: &mut [u8]) -> C
     ensures state { result ≡ Accepted → state.new ≡ counted format (net_of file.now) (up_to (settled format (net_of file.now)) h.count state.old) }
     ensures spares { Spares format h.count state.old state.new }
 {
-    let n = h.count;
     let mut number = word::get32(state, 4);
-    let mut at: usize = BLOCK_HEADER;
-    let mut k: usize = 0;
-    while k < n {
+    let mut at = BLOCK_HEADER;
+    for k in 0..h.count {
         let c = netlist::cells::cell_from(file, at);
-        if c.kind == 34 {
-            if lines::is_crowded(format, c, state, k) {
-                return Checked::Refused(Refusal {
-                    number: 26,
-                    place: k,
-                });
-            }
+        if (c.kind == 34) && lines::is_crowded(format, c, state, k) {
+            return refuse(26, k);
         }
         number = settle(format, h.pulse, c, state, k, number);
         at = netlist::cells::next_offset(at);
-        k += 1;
     }
     word::put32(state, 4, number);
-    Checked::Accepted
+    Ok(())
 }
 
 // The first two passes: each cell shows its value of the next instant.
@@ -240,15 +226,14 @@ pub fn step(
     ensures check { result ≡ crowding format (net_of file.now) state.old (step_state format (net_of file.now) starts state.old) }
     ensures state { result ≡ Accepted → state.new ≡ step_state format (net_of file.now) starts state.old }
     ensures spares { Spares format h.count state.old state.new }
-    ensures back { Roomy kept.old → (q : Refusal) → result ≡ Refused q → state.new ≡ state.old }
+    ensures back { Roomy kept.old → (q : Refusal) → result ≡ Err q → state.new ≡ state.old }
 {
     keeping::keep(format, kept, state, h.count);
     show(format, file, h, starts, state);
     if keeping::KEPT <= kept.len() {
-        let checked = keeping::check_lines(format, file, h, state);
-        if let Checked::Refused(r) = checked {
+        if let Err(r) = keeping::check_lines(format, file, h, state) {
             keeping::take_back(format, state, kept, h.count);
-            return Checked::Refused(r);
+            return Err(r);
         }
     }
     settle_all(format, file, h, state)

@@ -3,40 +3,35 @@
 ghost use Rattle.std.specs.Prelude.{◌≡◌, ℕ, ◌+◌, ◌-◌, ◌*◌, ◌<◌, ◌≤◌, length, drop};
 ghost use Rattle.std.proofs.Math.Seq.{paste};
 ghost use Rattle.model.specs.Word.{get16, put32};
+ghost use Rattle.model.specs.Refusals.{refuse};
 ghost use Rattle.model.specs.NetlistFile.{cell_limit, net_of};
 ghost use Rattle.model.specs.State.{base, before_at, instant_of, up_to, crowding};
 ghost use Rattle.simulator.specs.Fits.{Fits};
 ghost use Rattle.simulator.specs.Keeping.{Roomy, Kept, taken_back};
 
 use model::sizes::{BLOCK_HEADER, ELEMENTS, MOST_CELLS};
-use model::{Checked, Format, Refusal};
+use model::{Checked, Format, refuse};
 use netlist::header::Header;
 use state::{lines, wires};
 
 // The elements, and a word for each cell.
 pub const KEPT: usize = ELEMENTS + 2 * MOST_CELLS;
 
-// The n bytes from i on become those of another list from j on.
+// The n bytes from i on become those of another list from j on. A function of its own: what is kept and taken back is told by `paste`.
 pub fn copy(to: &mut [u8], i: usize, from: &[u8], j: usize, n: usize)
     requires { (i + n ≤ length to.old) × (j + n ≤ length from.now) }
     ensures { to.new ≡ paste to.old i (drop j from.now) n }
 {
-    let mut k: usize = 0;
-    while k < n {
-        to[i + k] = from[j + k];
-        k += 1;
-    }
+    to[i..i + n].copy_from_slice(&from[j..j + n]);
 }
 
 fn keep_values(format: Format, kept: &mut [u8], state: &[u8], n: usize)
     requires { (n ≤ cell_limit) × Roomy kept.old × (base format n ≤ length state.now) }
     ensures { (k : ℕ) → k < n → get16 kept.new (512 + 2 * k) ≡ before_at format state.now k }
 {
-    let mut k: usize = 0;
-    while k < n {
+    for k in 0..n {
         let v = wires::before_at(format, state, k);
         word::put16(kept, ELEMENTS + 2 * k, v);
-        k += 1;
     }
 }
 
@@ -56,37 +51,27 @@ pub fn check_lines(format: Format, file: &[u8], h: Header, state: &[u8]) -> Chec
     requires { Fits format file.now h state.now }
     ensures { result ≡ crowding format (net_of file.now) state.now state.now }
 {
-    let n = h.count;
-    let mut at: usize = BLOCK_HEADER;
-    let mut k: usize = 0;
-    while k < n {
+    let mut at = BLOCK_HEADER;
+    for k in 0..h.count {
         let c = netlist::cells::cell_from(file, at);
-        if c.kind == 34 {
-            if lines::is_crowded(format, c, state, k) {
-                return Checked::Refused(Refusal {
-                    number: 26,
-                    place: k,
-                });
-            }
+        if (c.kind == 34) && lines::is_crowded(format, c, state, k) {
+            return refuse(26, k);
         }
         at = netlist::cells::next_offset(at);
-        k += 1;
     }
-    Checked::Accepted
+    Ok(())
 }
 
 fn take_values_back(format: Format, state: &mut [u8], kept: &[u8], n: usize)
     requires { (n ≤ cell_limit) × Roomy kept.now × (base format n ≤ length state.old) }
     ensures { state.new ≡ up_to (taken_back format kept.now) n state.old }
 {
-    let mut k: usize = 0;
-    while k < n {
+    for k in 0..n {
         let v = wires::before_at(format, state, k);
         let at = wires::base(format, k);
         word::put16(state, at, v);
         let w = word::get16(kept, ELEMENTS + 2 * k);
         word::put16(state, at + 2, w);
-        k += 1;
     }
 }
 
@@ -98,5 +83,5 @@ pub fn take_back(format: Format, state: &mut [u8], kept: &[u8], n: usize)
     let t = word::get32(state, 0);
     take_values_back(format, state, kept, n);
     copy(state, wires::base(format, n), kept, 0, ELEMENTS);
-    word::put32(state, 0, if 0 < t { t - 1 } else { 0 });
+    word::put32(state, 0, t.saturating_sub(1));
 }

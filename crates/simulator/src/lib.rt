@@ -13,27 +13,13 @@ pub mod checks; // refusals 9 to 16, 27 and 23 in their order
 
 use model::{Answer, Checked, Format, Outcome, Refusal};
 
-// What a refused call answers.
-pub fn refused(r: Refusal) -> Answer
-    ensures { result ≡ refused_answer r }
-{
-    let words = [0u16; 16];
-    Answer {
-        outcome: Outcome::Refused(r),
-        instant: 0,
-        count: 0,
-        words,
-    }
-}
-
 // Evaluates instant 0: refusals 9 to 12, 27, 14.
 pub fn begin(format: Format, netlist: &[u8], words: &[u8], state: &mut [u8]) -> Answer
     ensures answer { result ≡ (begin_call format netlist.now words.now state.old).answer }
     ensures lent { state.new ≡ (begin_call format netlist.now words.now state.old).lent }
 {
-    let checked = checks::check_begin(format, netlist, words, state);
-    if let Checked::Refused(r) = checked {
-        return refused(r);
+    if let Err(r) = checks::check_begin(format, netlist, words, state) {
+        return Answer::refused(r);
     }
     runs::begin(format, netlist, words, state)
 }
@@ -43,9 +29,8 @@ pub fn continue_by(format: Format, netlist: &[u8], state: &mut [u8], n: u32) -> 
     ensures answer { result ≡ (continue_call format netlist.now n state.old).answer }
     ensures lent { state.new ≡ (continue_call format netlist.now n state.old).lent }
 {
-    let checked = checks::check_continue(format, netlist, n, state);
-    if let Checked::Refused(r) = checked {
-        return refused(r);
+    if let Err(r) = checks::check_continue(format, netlist, n, state) {
+        return Answer::refused(r);
     }
     runs::continue_by(format, netlist, false, state, n)
 }
@@ -55,9 +40,8 @@ pub fn start(format: Format, netlist: &[u8], state: &mut [u8]) -> Answer
     ensures answer { result ≡ (start_call format netlist.now state.old).answer }
     ensures lent { state.new ≡ (start_call format netlist.now state.old).lent }
 {
-    let checked = checks::check_start(format, netlist, state);
-    if let Checked::Refused(r) = checked {
-        return refused(r);
+    if let Err(r) = checks::check_start(format, netlist, state) {
+        return Answer::refused(r);
     }
     runs::continue_by(format, netlist, true, state, 1)
 }
@@ -67,9 +51,8 @@ pub fn run_netlist(netlist: &[u8], words: &[u8], budget: u32, state: &mut [u8]) 
     ensures answer { result ≡ (run_netlist_call netlist.now words.now budget state.old).answer }
     ensures lent { state.new ≡ (run_netlist_call netlist.now words.now budget state.old).lent }
 {
-    let checked = checks::check_run(netlist, words, budget, state);
-    if let Checked::Refused(r) = checked {
-        return refused(r);
+    if let Err(r) = checks::check_run(netlist, words, budget, state) {
+        return Answer::refused(r);
     }
     runs::full_run(netlist, words, budget, state)
 }

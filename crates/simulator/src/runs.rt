@@ -1,6 +1,6 @@
 // Runs of a netlist file that is accepted, on a state of its size.
+ghost use Rattle.model.specs.Refusals.{Accepted};
 ghost use Rattle.std.specs.Prelude.{◌≡◌, ◌+◌, ◌≤◌, length};
-ghost use Rattle.model.specs.declared.Checked.TheVariants.{Accepted};
 ghost use Rattle.model.specs.declared.Format.TheVariants.{Full, Compact};
 ghost use Rattle.model.specs.NetlistFile.{cells_of, finish_of, net_of};
 ghost use Rattle.model.specs.State.{instant_of, begin_state, words_in};
@@ -51,26 +51,23 @@ fn continue_state(
     ensures spares { Spares format h.count state.old state.new }
     ensures back { Roomy kept.old → state.new ≡ (continued_with format (net_of file.now) starts (finish_of file.now) budget state.old).state }
 {
-    let mut count: u32 = 0;
-    while count < budget {
-        let checked = instant::step(format, file, h, starts, state, kept);
-        if let Checked::Refused(r) = checked {
+    for count in 0..budget {
+        if let Err(r) = instant::step(format, file, h, starts, state, kept) {
             return Went {
-                checked: Checked::Refused(r),
+                checked: Err(r),
                 count,
             };
         }
-        count += 1;
         if wires::is_high(format, state, h.finish) {
             return Went {
-                checked: Checked::Accepted,
-                count,
+                checked: Ok(()),
+                count: count + 1,
             };
         }
     }
     Went {
-        checked: Checked::Accepted,
-        count,
+        checked: Ok(()),
+        count: budget,
     }
 }
 
@@ -87,8 +84,7 @@ fn continue_again(file: &[u8], h: Header, starts: bool, state: &mut [u8], budget
     let size = wires::base(Format::Compact, h.count) + ELEMENTS;
     keeping::copy(&mut whole, 0, state, 0, size);
     let went = continue_state(Format::Compact, file, h, starts, state, budget, &mut none);
-    let checked = went.checked;
-    if let Checked::Refused(r) = checked {
+    if went.checked.is_err() {
         keeping::copy(state, 0, &whole, 0, size);
         continue_state(
             Format::Compact,
@@ -99,10 +95,6 @@ fn continue_again(file: &[u8], h: Header, starts: bool, state: &mut [u8], budget
             went.count,
             &mut none,
         );
-        return Went {
-            checked: Checked::Refused(r),
-            count: went.count,
-        };
     }
     went
 }
@@ -151,16 +143,13 @@ fn words_in(format: Format, file: &[u8], h: Header, state: &[u8]) -> [u16; 16]
     requires { Fits format file.now h state.now }
     ensures { result ≡ words_in format (cells_of file.now) 0 state.now }
 {
-    let n = h.count;
-    let mut words = [0u16; 16];
-    let mut j: usize = 0;
-    let mut at: usize = BLOCK_HEADER;
-    let mut k: usize = 0;
-    while k < n {
+    let mut words = [0; 16];
+    let mut j = 0;
+    let mut at = BLOCK_HEADER;
+    for k in 0..h.count {
         let c = netlist::cells::cell_from(file, at);
         let v = wires::now_at(format, state, k);
         at = netlist::cells::next_offset(at);
-        k += 1;
         if c.kind == 40 {
             words[j] = v;
             j += 1;
@@ -215,9 +204,8 @@ pub fn continue_by(
 {
     let h = header::header_of(file);
     let went = continue_in(format, file, h, starts, state, budget);
-    let checked = went.checked;
-    if let Checked::Refused(r) = checked {
-        return crate::refused(r);
+    if let Err(r) = went.checked {
+        return Answer::refused(r);
     }
     shows(format, file, h, state, went.count)
 }

@@ -7,11 +7,12 @@ use native.Mathlib.Omega.{arith}
 use native.Mathlib.Decide.{ℕ_discrete}
 use lib.Dec.{eqb, leb}
 use lib.ListN.{length, get_or, get_or-eq_default}
-use borrow.Author.Tests.{eq-eqb, ne_eqb, le-leb, lt-leb, lt-ltb, le-ltb}
+use borrow.Author.Tests.{eqb-true, eqb-false, eq-eqb, ne_eqb, le-leb, lt-leb, lt-ltb, le-ltb}
 use Rattle.model.specs.declared.Cell.{Cell}
 use Rattle.model.specs.Word.{pick, bit, is_zero, operate, index, put16}
 use Rattle.model.specs.Circuit.{high, Shape, cell_table, shape, k_ground, k_array, k_address, k_unknown}
 use Rattle.model.specs.Gates.{past}
+use Rattle.laws.specs.Refusals.Laws.{by_bool}
 use Rattle.laws.specs.Circuit.Shapes.{operator-shape, apart}
 use Rattle.slow.specs.Ring.{slot, word_in, element_in, held_ring, held_of, held_in, merged_in, fallen_in, shown_in, time_at, taken_in, Leaves}
 use Rattle.slow.proofs.Rings.{put-element, put_same, leaves-more}
@@ -40,6 +41,15 @@ at_first t x y e = rw (eq-eqb t 0 e) refl
 
 pub at-later : (t x y : ℕ) → (t ≡ 0 → ⊥) → pick (eqb t 0) x y ≡ y
 at-later t x y e = rw (ne_eqb t 0 e) refl
+
+-- a word that was 1 an instant ago: it has fallen, or it is loaded
+pub fell : (f : ℕ → ℕ) (t : ℕ) → eqb (past 1 f t) 1 && not (eqb (f t) 1) ≡ high (f (t - 1)) && not (high (f t))
+fell f t = by_bool (eqb t 0)
+    (λ z. let e = eqb-true t 0 z in rw (e, past-early 1 f 0 (omega arith)) (by_bool (high (f 0)) (λ q. rw q refl) (λ q. rw q refl)))
+    (λ z. rw (past-late 1 f t (omega (arith, eqb-false t 0 z))) refl)
+
+pub loaded : (f : ℕ → ℕ) (t w x y : ℕ) → pick (eqb t 0) w (pick (eqb (past 1 f t) 1) x y) ≡ pick (eqb t 0) w (pick (high (f (t - 1))) x y)
+loaded f t w x y = by_bool (eqb t 0) (λ z. rw z refl) (λ z. rw (past-late 1 f t (omega (arith, eqb-false t 0 z))) refl)
 
 pub picked : (b : Bool) (x y : ℕ) → b ≡ true → pick b x y ≡ x
 picked b x y e = rw e refl

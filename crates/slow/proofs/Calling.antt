@@ -1,4 +1,5 @@
 -- The call: which refusal comes first, what a run that is not refused has, and what the call tells. Assumes nothing.
+use Rattle.std.specs.Prelude.{Err}
 use mathlib.Core.List.{List, [], ◌∷◌, ◌++◌}
 use mathlib.Core.Path.{◌≡◌, refl, sym, ◌∙◌, ap}
 use Prim.Native.Nat.{ℕ, ◌-◌, ◌*◌, ◌<◌, ◌≤◌}
@@ -9,9 +10,7 @@ use lib.ListN.{length, drop, replicate, length-append, length-replicate, length-
 use lib.Seq.{sets, drop-append_seam}
 use Rattle.model.specs.declared.Refusal.{Refusal}
 use Rattle.model.specs.declared.Options.{Options}
-use Rattle.model.specs.declared.Checked.{Checked}
-use Rattle.model.specs.declared.Checked.TheVariants.{Accepted, Refused}
-use Rattle.model.specs.Refusals.{refuse, first}
+use Rattle.model.specs.Refusals.{refuse, first, Checked, Accepted}
 use Rattle.model.specs.Program.{Program, program_of, roots}
 use Rattle.model.specs.ProgramChecks.{program_with, check_of}
 use Rattle.model.specs.Numbering.{netlist, finish, data_at}
@@ -56,7 +55,7 @@ module _ (options : Options) (program words : List ℕ) (budget : ℕ) (values w
   first_two = ap (λ (c : Checked). first (c ∷ check_of one program ∷ [])) (sym (first_one options.checked))
 
   -- as the check of a program told it, of options that are these
-  pub at-program : (o : Options) → o ≡ one → {r : Refusal} → check_call o program ≡ Refused r → Refused r ≡ verdict
+  pub at-program : (o : Options) → o ≡ one → {r : Refusal} → check_call o program ≡ Err r → Err r ≡ verdict
   at-program o q e = sym (first-take 2 checks (sym first_two ∙ ap (λ (x : Options). check_call x program) (sym q) ∙ e))
 
   pub passed : (o : Options) → o ≡ one → check_call o program ≡ Accepted → check_call one program ≡ Accepted
@@ -207,7 +206,7 @@ module _ (options : Options) (program words : List ℕ) (budget : ℕ) (values w
 
   -- What the call tells ------------------------------------------------------------------------------------------------------------------
 
-  pub refused-call : {r : Refusal} → verdict ≡ Refused r
+  pub refused-call : {r : Refusal} → verdict ≡ Err r
       → slow_run_call options program words budget values work ≡ record { answer = refused_answer r; values = values; work = work }
   unfolding slow_run_call slow_running
   refused-call e = rw e refl

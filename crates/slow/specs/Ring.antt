@@ -13,6 +13,7 @@ use Rattle.model.specs.NetlistFile.{cell_from, cells_at, in_list}
 use Rattle.model.specs.Calls.{word_at}
 use Rattle.model.specs.Gates.{past, slow_size, slow_values}
 use Rattle.laws.specs.Circuit.Ordered.{Ordered}
+use Rattle.slow.specs.declared.net.Net.{Net}
 
 -- the netlist of n cells, six bytes each
 abbrev pub net_of : List ℕ → ℕ → List Cell
@@ -159,3 +160,17 @@ pub record Kept (net : List Cell) (words : ℕ → ℕ) (W : Values) (t k : ℕ)
 -- this of the values that are worked out
 abbrev pub KeptIn : List ℕ → ℕ → ℕ → List ℕ → List ℕ → ℕ → ℕ → List ℕ → Type 0
 KeptIn cells n ors times words t k s = Kept (net_of cells n) (word_at words) (values_of cells n ors times words) t k s
+
+-- The same of a net -----------------------------------------------------------------------------------------------------------------------
+
+abbrev pub cells_of : Net → List Cell
+cells_of r = net_of r.cells.now r.n
+
+abbrev pub values_by : Net → Values
+values_by r = values_of r.cells.now r.n r.ors r.times.now r.words.now
+
+abbrev pub WorksFor : Net → List ℕ → Type 0
+WorksFor r s = Works r.cells.now r.n r.words.now s
+
+abbrev pub KeptBy : Net → ℕ → ℕ → List ℕ → Type 0
+KeptBy r t k s = KeptIn r.cells.now r.n r.ors r.times.now r.words.now t k s

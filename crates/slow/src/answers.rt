@@ -3,8 +3,9 @@ ghost use Rattle.std.specs.Prelude.{◌≡◌, ◌+◌, ◌*◌, ◌<◌, ◌≤
 ghost use Rattle.std.proofs.lemmas.List.Edits.{sets};
 ghost use Rattle.model.specs.Circuit.{memory_words, memories};
 ghost use Rattle.model.specs.Gates.{value_bytes, slow_size};
-ghost use Rattle.slow.specs.Ring.{net_of, word_in};
+ghost use Rattle.slow.specs.Ring.{cells_of, word_in};
 
+use crate::net::Net;
 use crate::ring;
 use netlist::cells::Layout;
 
@@ -13,26 +14,22 @@ pub fn put_values(values: &mut [u8], n: usize, work: &[u8], t: u32)
     requires { (n ≤ 1024) × (2 * n ≤ length values.old) × (slow_size n ≤ length work.now) }
     ensures { values.new ≡ sets values.old 0 (value_bytes (λ k. word_in work.now k t) 0 n) }
 {
-    let mut k: usize = 0;
-    while k < n {
+    for k in 0..n {
         let v = ring::word_at(work, k, t);
         word::put16(values, 2 * k, v);
-        k += 1;
     }
 }
 
 // The values of the sixteen memories at instant t.
-pub fn words_in(cells: &[u8], n: usize, work: &[u8], t: u32) -> [u16; 16]
-    requires { (n ≤ 1024) × (6 * n ≤ length cells.now) × (memories (net_of cells.now n) ≡ 16) × (slow_size n ≤ length work.now) }
-    ensures { result ≡ memory_words (net_of cells.now n) 0 (λ k. word_in work.now k t) }
+pub fn words_in(net: &Net<'_>, work: &[u8], t: u32) -> [u16; 16]
+    requires { (memories (cells_of net.now) ≡ 16) × (slow_size net.now.n ≤ length work.now) }
+    ensures { result ≡ memory_words (cells_of net.now) 0 (λ k. word_in work.now k t) }
 {
     let mut words = [0u16; 16];
     let mut j: usize = 0;
-    let mut k: usize = 0;
-    while k < n {
-        let c = netlist::cells::cell_at(cells, Layout::InList, k);
+    for k in 0..net.n {
+        let c = netlist::cells::cell_at(net.cells, Layout::InList, k);
         let v = ring::word_at(work, k, t);
-        k += 1;
         if c.kind == 40 {
             words[j] = v;
             j += 1;

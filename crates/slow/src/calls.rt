@@ -1,20 +1,13 @@
 // A slow run of a program. Everything is checked before anything is written, because a refusal changes no lent byte.
 ghost use Rattle.std.specs.Prelude.{◌≡◌, ◌*◌, ◌<◌, ◌≤◌, length};
 ghost use Rattle.model.specs.Circuit.{level};
-ghost use Rattle.model.specs.declared.Checked.TheVariants.{Accepted};
-ghost use Rattle.model.specs.Refusals.{refuse, first};
+ghost use Rattle.model.specs.Refusals.{refuse, first, Accepted};
 ghost use Rattle.model.specs.Calls.{overwrite, refused_answer};
 ghost use Rattle.model.specs.Gates.{end_at, slow_answer, value_bytes, slow_size, with_pulse, slow_run_checks, slow_running, slow_run_call};
-ghost use Rattle.slow.specs.Ring.{net_of, values_of, Works};
 
+use crate::net::Net;
 use model::sizes::{COMPILED_MOST, LAST_INSTANT, START_WORDS};
-use model::{Answer, Checked, Options, Outcome, Refusal};
-
-fn refuse(number: u8) -> Checked
-    ensures { result ≡ refuse number 0 }
-{
-    Checked::Refused(Refusal { number, place: 0 })
-}
+use model::{Answer, Checked, Options, Outcome, Refusal, refuse};
 
 // The bytes to work in that n cells need.
 fn size(n: usize) -> usize
@@ -24,29 +17,13 @@ fn size(n: usize) -> usize
     512 * (2 * n + 1)
 }
 
-fn refused(r: Refusal) -> Answer
-    ensures { result ≡ refused_answer r }
-{
-    let words = [0u16; 16];
-    Answer {
-        outcome: Outcome::Refused(r),
-        instant: 0,
-        count: 0,
-        words,
-    }
-}
-
 // No pulse length is looked at.
 fn single(options: Options) -> Options
     ensures { result ≡ with_pulse 1 options }
 {
-    let checked = options.checked;
-    let times = options.times;
     Options {
-        checked,
-        times,
-        procedures: options.procedures,
         pulse: 1,
+        ..options
     }
 }
 
@@ -63,42 +40,23 @@ fn check(
 {
     let one = single(options);
     let checked = program::check(one, program);
-    if let Checked::Refused(r) = checked {
-        return Checked::Refused(r);
+    if let Err(r) = checked {
+        return Err(r);
     }
     if LAST_INSTANT < budget {
-        return refuse(13);
+        return refuse(13, 0);
     }
     if words.len() < START_WORDS {
-        return refuse(14);
+        return refuse(14, 0);
     }
     let n = compiler::count_cells(one, program);
     if values.len() < 2 * n {
-        return refuse(14);
+        return refuse(14, 0);
     }
     if work.len() < size(n) {
-        return refuse(14);
+        return refuse(14, 0);
     }
-    Checked::Accepted
-}
-
-// A slow run of a list of cells, with a table of times.
-fn run_by(
-    cells: &[u8],
-    n: usize,
-    finish: usize,
-    ors: usize,
-    times: &[u8; 11],
-    words: &[u8],
-    budget: u32,
-    values: &mut [u8],
-    work: &mut [u8],
-) -> Answer
-    requires { Works cells.now n words.now work.old × (finish < n) × (budget ≤ 1000000) × (2 * n ≤ length values.old) }
-    ensures answer { result ≡ slow_answer (net_of cells.now n) finish (values_of cells.now n ors times.now words.now) (end_at (level (values_of cells.now n ors times.now words.now) finish) 0 budget) }
-    ensures values { values.new ≡ overwrite (value_bytes (λ k. values_of cells.now n ors times.now words.now k (end_at (level (values_of cells.now n ors times.now words.now) finish) 0 budget)) 0 n) values.old }
-{
-    crate::run(cells, n, finish, ors, times, words, budget, values, work)
+    Ok(())
 }
 
 // The run of a program that was not refused. What was worked in is left 0.
@@ -117,20 +75,18 @@ fn run_accepted(
 {
     let mut cells = [0u8; COMPILED_MOST];
     let made = compiler::list_accepted(single(options), program, &mut cells);
-    let times = options.times;
+    let times = options.times.as_slice();
     let n = made.count as usize;
     let m = size(n);
-    let answer = run_by(
-        &cells,
+    let net = Net {
+        cells: &cells,
         n,
-        made.finish as usize,
-        made.ors as usize,
-        &times,
+        finish: made.finish as usize,
+        ors: made.ors as usize,
+        times,
         words,
-        budget,
-        values,
-        &mut work[..m],
-    );
+    };
+    let answer = crate::run(&net, budget, values, &mut work[..m]);
     netlist::blocks::clear(work, 0, m);
     answer
 }
@@ -149,8 +105,8 @@ pub fn slow_run(
     ensures work { work.new ≡ (slow_run_call options program.now words.now budget values.old work.old).work }
 {
     let checked = check(options, program, words, budget, values, work);
-    if let Checked::Refused(r) = checked {
-        return refused(r);
+    if let Err(r) = checked {
+        return Answer::refused(r);
     }
     run_accepted(options, program, words, budget, values, work)
 }

@@ -4,27 +4,19 @@ ghost use Rattle.model.specs.Word.{pick, put16};
 ghost use Rattle.model.specs.Circuit.{cell_at, shape, high};
 ghost use Rattle.model.specs.NetlistFile.{cell_from};
 ghost use Rattle.model.specs.Gates.{slow_size};
-ghost use Rattle.slow.specs.Ring.{net_of, slot, word_in, held_ring, held_code, merge_in, merged_in, fallen_in, shown_in, time_at, taken_in, read_in, Sees, Leaves, Owned};
+ghost use Rattle.slow.specs.Ring.{cells_of, slot, word_in, held_ring, held_code, merge_in, merged_in, fallen_in, shown_in, time_at, taken_in, read_in, Sees, Leaves, Owned};
 
+use crate::net::Net;
 use crate::ring;
 use model::sizes::CELL;
 use model::{Cell, Merge, Merged};
 use netlist::cells::Layout;
 
-fn wide(x: u8) -> u32
-    ensures { result ≡ x }
-{
-    x as u32
-}
-
 // The time of a kind; past the table's end there is none.
 fn entry(times: &[u8], k: usize) -> u32
     ensures { result ≡ get_or times.now k 0 }
 {
-    if k < times.len() {
-        return wide(times[k]);
-    }
-    0
+    times.get(k).map_or(0, |x| u32::from(*x))
 }
 
 // An operator's time; behind the walk none.
@@ -52,55 +44,32 @@ fn merge_step(kind: u8, held: Merge, a: bool, b: bool) -> Merged
 
 // A clock was high an instant ago and is so no more.
 fn has_fallen(work: &[u8], a: usize, t: u32) -> bool
-    requires { (a < 1024) × (512 * a + 512 ≤ length work.now) × (0 < t) }
+    requires { (a < 1024) × (512 * a + 512 ≤ length work.now) }
     ensures { result ≡ fallen_in work.now a t }
 {
-    let before = ring::word_at(work, a, t - 1);
+    let before = ring::past(work, a, t, 1);
     let now = ring::word_at(work, a, t);
     (before == 1) & (now != 1)
 }
 
-// What memory k, which is c, shows; first is its start word.
-fn memory_word(first: u16, c: Cell, n: usize, work: &[u8], k: usize, t: u32) -> u16
-    requires { (n ≤ 1024) × (k < n) × (c.a < n) × (c.b < n) × (slow_size n ≤ length work.now) }
-    ensures { result ≡ pick (eqb t 0) first (pick (fallen_in work.now c.a t) (word_in work.now c.b (t - 1)) (word_in work.now k (t - 1))) }
+// What cell k, which keeps a word, shows: at first `first`, and then of an instant ago the word of cell b, if it loads it, or else its own.
+fn kept_word(net: &Net<'_>, first: u16, loads: bool, b: usize, work: &[u8], k: usize, t: u32) -> u16
+    requires { (k < net.now.n) × (b < net.now.n) × (slow_size net.now.n ≤ length work.now) }
+    ensures { result ≡ pick (eqb t 0) first (pick loads (word_in work.now b (t - 1)) (word_in work.now k (t - 1))) }
 {
     if t == 0 {
         return first;
     }
-    if has_fallen(work, c.a as usize, t) {
-        return ring::word_at(work, c.b as usize, t - 1);
-    }
-    ring::word_at(work, k, t - 1)
-}
-
-// What latch k, which is c, shows.
-fn latch_word(c: Cell, n: usize, work: &[u8], k: usize, t: u32) -> u16
-    requires { (n ≤ 1024) × (k < n) × (c.a < n) × (c.b < n) × (slow_size n ≤ length work.now) }
-    ensures { result ≡ pick (eqb t 0) 0 (pick (high (word_in work.now c.a (t - 1))) (word_in work.now c.b (t - 1)) (word_in work.now k (t - 1))) }
-{
-    if t == 0 {
-        return 0;
-    }
-    if ring::word_at(work, c.a as usize, t - 1) == 1 {
-        return ring::word_at(work, c.b as usize, t - 1);
+    if loads {
+        return ring::word_at(work, b, t - 1);
     }
     ring::word_at(work, k, t - 1)
 }
 
 // What cell k, which is c, shows at instant t; first is its start word, if it is a memory.
-pub fn next_word(
-    n: usize,
-    ors: usize,
-    times: &[u8],
-    first: u16,
-    c: Cell,
-    work: &[u8],
-    k: usize,
-    t: u32,
-) -> u16
-    requires { (n ≤ 1024) × (k < n) × ((c.kind ≡ 1 → ⊥) → c.a < n) × (c.b < n) × (slow_size n ≤ length work.now) }
-    ensures { result ≡ shown_in (shape c.kind) work.now n k c t (time_at times.now ors k c.kind) first }
+pub fn next_word(net: &Net<'_>, first: u16, c: Cell, work: &[u8], k: usize, t: u32) -> u16
+    requires { (k < net.now.n) × ((c.kind ≡ 1 → ⊥) → c.a < net.now.n) × (c.b < net.now.n) × (slow_size net.now.n ≤ length work.now) }
+    ensures { result ≡ shown_in (shape c.kind) work.now net.now.n k c t (time_at net.now.times.now net.now.ors k c.kind) first }
 {
     let kind = c.kind;
     if kind == 1 {
@@ -114,14 +83,16 @@ pub fn next_word(
         return word::bit(v == 1);
     }
     if kind == 40 {
-        return memory_word(first, c, n, work, k, t);
+        let loads = has_fallen(work, a, t);
+        return kept_word(net, first, loads, b, work, k, t);
     }
     if kind == 45 {
-        return latch_word(c, n, work, k, t);
+        let loads = ring::past(work, a, t, 1) == 1;
+        return kept_word(net, 0, loads, b, work, k, t);
     }
-    let d = time_at(times, ors, k, kind);
+    let d = time_at(net.times, net.ors, k, kind);
     if kind == 44 {
-        return ring::past(work, n + 1 + k, t, d);
+        return ring::past(work, net.n + 1 + k, t, d);
     }
     let x = ring::word_at(work, a, t);
     let y = ring::word_at(work, b, t);
@@ -136,12 +107,12 @@ pub fn next_word(
         36 => word::bit((x == 1) & (y != 0)),
         37 => word::bit((x == 1) & (y == 0)),
         38 => {
-            let held = ring::held_at(work, n, k, t);
+            let held = ring::held_at(work, net.n, k, t);
             let m = merge_step(kind, held, x == 1, y == 1);
             word::bit(m.out)
         }
         39 => {
-            let held = ring::held_at(work, n, k, t);
+            let held = ring::held_at(work, net.n, k, t);
             let m = merge_step(kind, held, x == 1, y == 1);
             word::bit(m.out)
         }
@@ -153,45 +124,45 @@ pub fn next_word(
 // Beside the value ---------------------------------------------------------------------------------------------------------------------------
 
 // The elements of the array whose 42 is cell k: one of them changes, where its clock has fallen.
-pub fn take_in(cells: &[u8], n: usize, c: Cell, k: usize, work: &mut [u8], t: u32)
-    requires { (n ≤ 1024) × (6 * n ≤ length cells.now) × (k + 1 < n) × (c.delay < 4) × (c.a < n) × (c.b < n) × ((cell_from cells.now (6 * (k + 1))).a < n) × (slow_size n ≤ length work.old) }
-    ensures leaves { Leaves n t (λ j. ⊥) (λ e. (64 * c.delay ≤ e) × (e < 64 * c.delay + 64)) work.old work.new }
-    ensures elements { (i : ℕ) → i < 64 → word_in work.new n (64 * c.delay + i) ≡ taken_in work.old n c (cell_from cells.now (6 * (k + 1))).a t i }
+pub fn take_in(net: &Net<'_>, c: Cell, k: usize, work: &mut [u8], t: u32)
+    requires { (k + 1 < net.now.n) × (c.delay < 4) × (c.a < net.now.n) × (c.b < net.now.n) × ((cell_from net.now.cells.now (6 * (k + 1))).a < net.now.n) × (slow_size net.now.n ≤ length work.old) }
+    ensures leaves { Leaves net.now.n t (λ j. ⊥) (λ e. (64 * c.delay ≤ e) × (e < 64 * c.delay + 64)) work.old work.new }
+    ensures elements { (i : ℕ) → i < 64 → word_in work.new net.now.n (64 * c.delay + i) ≡ taken_in work.old net.now.n c (cell_from net.now.cells.now (6 * (k + 1))).a t i }
 {
     if t == 0 {
         return;
     }
     if has_fallen(work, c.a as usize, t) {
-        let next = netlist::cells::cell_at(cells, Layout::InList, k + 1);
+        let next = netlist::cells::cell_at(net.cells, Layout::InList, k + 1);
         let w = ring::word_at(work, next.a as usize, t - 1);
         let v = ring::word_at(work, c.b as usize, t - 1);
-        ring::put_word(work, n, 64 * (c.delay as u32) + (w % 64) as u32, v);
+        ring::put_word(work, net.n, 64 * (c.delay as u32) + (w % 64) as u32, v);
         return;
     }
 }
 
 // The element that read k, which is c, reads.
-pub fn read_in(cells: &[u8], n: usize, c: Cell, k: usize, work: &mut [u8], t: u32)
-    requires { (n ≤ 1024) × (6 * n ≤ length cells.now) × (k < n) × (c.a < n) × (c.b < n) × ((cell_at (net_of cells.now n) c.a).delay < 4) × (slow_size n ≤ length work.old) }
-    ensures { work.new ≡ put16 work.old (slot (held_ring n k) t) (read_in work.old n c (cell_at (net_of cells.now n) c.a).delay t) }
+pub fn read_in(net: &Net<'_>, c: Cell, k: usize, work: &mut [u8], t: u32)
+    requires { (k < net.now.n) × (c.a < net.now.n) × (c.b < net.now.n) × ((cell_at (cells_of net.now) c.a).delay < 4) × (slow_size net.now.n ≤ length work.old) }
+    ensures { work.new ≡ put16 work.old (slot (held_ring net.now.n k) t) (read_in work.old net.now.n c (cell_at (cells_of net.now) c.a).delay t) }
 {
     let a = c.a as usize;
-    let array = cells[CELL * a + 1] as u32;
+    let array = u32::from(net.cells[CELL * a + 1]);
     let w = ring::word_at(work, c.b as usize, t);
-    let v = ring::word_at(work, n, 64 * array + (w % 64) as u32);
-    ring::put_word(work, n + 1 + k, t, v);
+    let v = ring::word_at(work, net.n, 64 * array + (w % 64) as u32);
+    ring::put_word(work, net.n + 1 + k, t, v);
 }
 
 // What merge k holds after the instant.
-pub fn hold(c: Cell, n: usize, k: usize, work: &mut [u8], t: u32)
-    requires { (n ≤ 1024) × (k < n) × (c.a < n) × (c.b < n) × (slow_size n ≤ length work.old) }
-    ensures { work.new ≡ put16 work.old (slot (held_ring n k) t) (held_code (merged_in work.old n k c t).held) }
+pub fn hold(net: &Net<'_>, c: Cell, k: usize, work: &mut [u8], t: u32)
+    requires { (k < net.now.n) × (c.a < net.now.n) × (c.b < net.now.n) × (slow_size net.now.n ≤ length work.old) }
+    ensures { work.new ≡ put16 work.old (slot (held_ring net.now.n k) t) (held_code (merged_in work.old net.now.n k c t).held) }
 {
     let x = ring::word_at(work, c.a as usize, t);
     let y = ring::word_at(work, c.b as usize, t);
-    let held = ring::held_at(work, n, k, t);
+    let held = ring::held_at(work, net.n, k, t);
     let m = merge_step(c.kind, held, x == 1, y == 1);
     let next = m.held;
     let code = ring::held_code(next);
-    ring::put_word(work, n + 1 + k, t, code);
+    ring::put_word(work, net.n + 1 + k, t, code);
 }

@@ -5,37 +5,28 @@ ghost use Rattle.std.specs.Prelude.{◌≡◌, ◌*◌, ◌<◌, ◌≤◌, leng
 ghost use Rattle.model.specs.Circuit.{level};
 ghost use Rattle.model.specs.Calls.{overwrite};
 ghost use Rattle.model.specs.Gates.{end_at, slow_answer, value_bytes};
-ghost use Rattle.slow.specs.Ring.{net_of, values_of, Works};
+ghost use Rattle.slow.specs.Ring.{cells_of, values_by, WorksFor};
 
+pub mod net; // what a slow run is of
 mod ring; // rings of words
 mod gates; // what cells show
 mod instants; // instants, cell after cell
 mod answers; // values and answers
 pub mod calls; // a slow run of a program
 
+use crate::net::Net;
 use model::{Answer, Outcome};
 
-// A slow run of n cells, six bytes each, of which those from `ors` on are instant. The values of its last instant go into one lent buffer; the
-// other is to work in.
-pub fn run(
-    cells: &[u8],
-    n: usize,
-    finish: usize,
-    ors: usize,
-    times: &[u8],
-    words: &[u8],
-    budget: u32,
-    values: &mut [u8],
-    work: &mut [u8],
-) -> Answer
-    requires { Works cells.now n words.now work.old × (finish < n) × (budget ≤ 1000000) × (2 * n ≤ length values.old) }
-    ensures answer { result ≡ slow_answer (net_of cells.now n) finish (values_of cells.now n ors times.now words.now) (end_at (level (values_of cells.now n ors times.now words.now) finish) 0 budget) }
-    ensures values { values.new ≡ overwrite (value_bytes (λ k. values_of cells.now n ors times.now words.now k (end_at (level (values_of cells.now n ors times.now words.now) finish) 0 budget)) 0 n) values.old }
+// A slow run. The values of its last instant go into one lent buffer; the other is to work in.
+pub fn run(net: &Net<'_>, budget: u32, values: &mut [u8], work: &mut [u8]) -> Answer
+    requires { WorksFor net.now work.old × (net.now.finish < net.now.n) × (budget ≤ 1000000) × (2 * net.now.n ≤ length values.old) }
+    ensures answer { result ≡ slow_answer (cells_of net.now) net.now.finish (values_by net.now) (end_at (level (values_by net.now) net.now.finish) 0 budget) }
+    ensures values { values.new ≡ overwrite (value_bytes (λ k. values_by net.now k (end_at (level (values_by net.now) net.now.finish) 0 budget)) 0 net.now.n) values.old }
 {
-    let t = instants::run(cells, n, finish, ors, times, words, budget, work);
-    answers::put_values(values, n, work, t);
-    let last = answers::words_in(cells, n, work, t);
-    if ring::word_at(work, finish, t) == 1 {
+    let t = instants::run(net, budget, work);
+    answers::put_values(values, net.n, work, t);
+    let last = answers::words_in(net, work, t);
+    if ring::word_at(work, net.finish, t) == 1 {
         return Answer {
             outcome: Outcome::Ended,
             instant: t,

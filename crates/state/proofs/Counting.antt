@@ -1,9 +1,10 @@
 -- The number in flight, counted from a state: the ones of a line, whole bytes first and then the low bits of one more,
 -- and the sum over the cells.
 -- Assumes nothing.
-use mathlib.Core.Bool.{true, false, ◌&&◌}
+use mathlib.Core.Bool.{Bool, true, false, ◌&&◌}
+use Rattle.std.specs.Int.{from_bool}
 use mathlib.Core.List.{List}
-use mathlib.Core.Path.{◌≡◌, refl, sym, ◌∙◌, ap, ap₂}
+use mathlib.Core.Path.{◌≡◌, refl, sym, ◌∙◌, ap}
 use Prim.Native.Nat.{ℕ, zero, suc, ◌+◌, ◌-◌, ◌*◌, ◌/◌, ◌%◌, ◌^◌, ◌<◌, ◌≤◌}
 use native.Mathlib.Nat.{add-suc, one-mul, mod-lt, mod-eq_of_lt}
 use native.Mathlib.Omega.{arith}
@@ -63,56 +64,35 @@ module _ (s : List ℕ) (k d : ℕ) where
       ∙ ap (λ (x : ℕ). ones (line_bit Full s k d) (8 * i) + x)
       (ones-same (λ j. line_bit Full s k d (8 * i + j)) (λ j. b / 2 ^ j % 2) r (λ j l. byte-bit i j (omega arith)) ∙ byte-ones b r)
 
--- so many whole bytes have been counted, left of the newest d inputs stand from byte `at` on
-pub record Counts (s : List ℕ) (k d at left sum : ℕ) : Type 0 where
-  pub bytes : ℕ
-  pub place : at ≡ base Full k + 8 + bytes
-  pub rest : left + 8 * bytes ≡ d
-  pub low : sum ≤ 8 * bytes
-  pub so_far : sum ≡ ones (line_bit Full s k d) (8 * bytes)
+-- a byte has eight of the inputs
+pub byte-few : (b : ℕ) → b < 256 → digits b ≤ 8
+byte-few b h = ones-le 8 b h
 
-pub counts-none : (s : List ℕ) (k d : ℕ) → Counts s k d (base Full k + 8) d 0
-unfolding ones
-counts-none s k d = record { bytes = 0; place = omega arith; rest = omega arith; low = omega arith; so_far = refl }
+-- the bits of a byte that are left
+mask : {left : ℕ} → left < 8 → (1 * 2 ^ left) % 256 ≡ 2 ^ left
+mask {left} low = ap (λ (x : ℕ). x % 256) (one-mul (2 ^ left)) ∙ mod-eq_of_lt (pow-lt low)
 
-module _ {s : List ℕ} {k d at left sum : ℕ} (p : Counts s k d at left sum) where
-  pub counts-byte : get_or s at 0 < 256 → digits (get_or s at 0) ≤ 8
-  counts-byte h = ones-le 8 (get_or s at 0) h
+-- the ones so far, and those of byte i
+module _ (s : List ℕ) (k d i : ℕ) {sum : ℕ} (f : sum ≡ ones (line_bit Full s k d) (8 * i)) where
+  pub byte-more : get_or s (base Full k + 8 + i) 0 < 256
+      → sum + digits (get_or s (base Full k + 8 + i) 0) ≡ ones (line_bit Full s k d) (8 * (i + 1))
+  byte-more b =
+      let whole : get_or s (base Full k + 8 + i) 0 % 2 ^ 8 ≡ get_or s (base Full k + 8 + i) 0 = mod-eq_of_lt b in
+      let n : 8 * (i + 1) ≡ 8 * i + 8 = omega arith in
+      rw (n, line-part s k d i 8 (omega arith), whole, f) refl
 
-  pub counts-more : 8 ≤ left → get_or s at 0 < 256 → Counts s k d (at + 1) (left - 8) (sum + digits (get_or s at 0))
-  counts-more h b =
-      let i = p.bytes in
-      let whole : get_or s at 0 % 2 ^ 8 ≡ get_or s at 0 = mod-eq_of_lt b in
-      let more : ones (line_bit Full s k d) (8 * i + 8) ≡ ones (line_bit Full s k d) (8 * i) + digits (get_or s at 0) =
-      line-part s k d i 8 (omega arith) ∙ ap (λ (x : ℕ). ones (line_bit Full s k d) (8 * i) + digits x) (ap (λ (a : ℕ). get_or s a 0 % 2 ^ 8) (sym p.place) ∙ whole) in
-      record {
-        bytes = i + 1;
-        place = omega (arith, p.place);
-        rest = omega (arith, p.rest);
-        low = omega (arith, p.low, counts-byte b);
-        so_far = omega (arith, p.so_far, more, ap (ones (line_bit Full s k d)) (eight i));
-      }
-    where
-      eight : (i : ℕ) → 8 * (i + 1) ≡ 8 * i + 8
-      eight i = omega arith
+  pub rest-more : {left : ℕ} → left < 8 → 8 * i + left ≡ d
+      → sum + digits (get_or s (base Full k + 8 + i) 0 % ((1 * 2 ^ left) % 256)) ≡ ones (line_bit Full s k d) d
+  rest-more {left} low g =
+      let more = line-part s k d i left (omega arith) in
+      let end = rw g at more in
+      rw (end, mask low, f) refl
 
-  -- the bits that are left
-  pub mask : left < 8 → (1 * 2 ^ left) % 256 ≡ 2 ^ left
-  mask h = ap (λ (x : ℕ). x % 256) (one-mul (2 ^ left)) ∙ mod-eq_of_lt (pow-lt h)
-
-  pub counts-rest : left < 8 → digits (get_or s at 0 % ((1 * 2 ^ left) % 256)) ≤ 8
-  counts-rest h =
-      let e : (1 * 2 ^ left) % 256 ≡ 2 ^ left = mask h in
-      rw e (omega (arith, ones-le left (get_or s at 0 % 2 ^ left) (mod-lt (get_or s at 0) (pow_pos left))))
-
-  pub counts_all : left < 8 → sum + digits (get_or s at 0 % ((1 * 2 ^ left) % 256)) ≡ ones (line_bit Full s k d) d
-  counts_all h =
-      let i = p.bytes in
-      let e : 8 * i + left ≡ d = omega (arith, p.rest) in
-      ap₂ (λ (x y : ℕ). x + digits (get_or s at 0 % y)) p.so_far (mask h)
-      ∙ ap (λ (a : ℕ). ones (line_bit Full s k d) (8 * i) + digits (get_or s a 0 % 2 ^ left)) p.place
-      ∙ sym (line-part s k d i left (omega arith))
-      ∙ ap (ones (line_bit Full s k d)) e
+-- a truth as a number, as the conversion gives it
+pub truth : (b : Bool) → from_bool b ≡ bit b
+unfolding bit
+truth true = refl
+truth false = refl
 
 -- of a compact line: there is one where its number is in range
 unfoldable pub one_left : ℕ → ℕ → ℕ

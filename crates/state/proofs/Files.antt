@@ -1,5 +1,6 @@
 -- What a netlist file that is accepted gives those who look at its state: its size, its cells, and that they stand in the state.
 -- Assumes nothing.
+use Rattle.model.specs.Refusals.{Accepted}
 use mathlib.Core.List.{List}
 use mathlib.Core.Path.{◌≡◌, ◌∙◌, ap}
 use Prim.Native.Nat.{ℕ, ◌+◌, ◌*◌, ◌<◌, ◌≤◌}
@@ -7,7 +8,6 @@ use native.Mathlib.Omega.{arith}
 use native.Mathlib.Nat.{zero-add}
 use lib.ListN.{length}
 use Rattle.model.specs.declared.Format.{Format}
-use Rattle.model.specs.declared.Checked.TheVariants.{Accepted}
 use Rattle.model.specs.Circuit.{cell_at}
 use Rattle.model.specs.NetlistFile.{cell_limit, cell_from, in_file, blocks_for, count_of, finish_of, pulse_of, cells_of, file_check}
 use Rattle.model.specs.State.{base}

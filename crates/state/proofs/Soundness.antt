@@ -1,15 +1,14 @@
 -- Turns of the loops of refusal 15, and what it gives where it lets a state pass. Assumes nothing.
 use mathlib.Core.Bool.{Bool, true, false, not, ◌&&◌, ◌||◌}
 use mathlib.Core.List.{List, [], ◌∷◌}
-use mathlib.Core.Path.{◌≡◌, refl, sym, ◌∙◌, ap}
-use Prim.Native.Nat.{ℕ, zero, suc, ◌+◌, ◌-◌, ◌<◌, ◌≤◌}
+use mathlib.Core.Path.{◌≡◌, refl, ◌∙◌, ap}
+use Prim.Native.Nat.{ℕ, zero, suc, ◌+◌, ◌<◌, ◌≤◌}
 use native.Mathlib.Omega.{arith}
 use native.Mathlib.Nat.{add-zero}
-use native.Mathlib.Numerals.{add-one}
 use lib.Dec.{eqb, leb}
 use lib.ListN.{length, get_or, take, drop, drop_of_length-le}
-use lib.Seq.{drop-cons}
-use borrow.Author.Tests.{eq-eqb, ne_eqb, eqb-true, leb-true}
+use Rattle.std.specs.List.{list_all}
+use borrow.Author.Tests.{eq-eqb, eqb-true, leb-true}
 use Rattle.model.specs.declared.Cell.{Cell}
 use Rattle.model.specs.declared.Format.{Format}
 use Rattle.model.specs.declared.Format.TheVariants.{Full, Compact}
@@ -21,25 +20,10 @@ use Rattle.laws.specs.Refusals.Laws.{and-true}
 use Rattle.state.specs.Stands.{Lined, Ready}
 use Rattle.state.proofs.Standing.{cells-from}
 
--- of m bytes from i on
-module _ (s : List ℕ) (i m : ℕ) (h : 0 < m) (l : i < length s) where
-  zero-at : all_zero (take m (drop i s)) ≡ eqb (get_or s i 0) 0 && all_zero (take (m - 1) (drop (i + 1) s))
-  unfolding all_zero
-  zero-at =
-      let e : m ≡ suc (m - 1) = omega arith in
-      ap (λ (n : ℕ). all_zero (take n (drop i s))) e
-      ∙ ap (λ (r : List ℕ). all_zero (take (suc (m - 1)) r)) (drop-cons s i 0 l)
-      ∙ ap (λ (j : ℕ). eqb (get_or s i 0) 0 && all_zero (take (m - 1) (drop j s))) (sym (add-one i))
-
-  pub zero-here : get_or s i 0 ≡ 0 → all_zero (take m (drop i s)) ≡ all_zero (take (m - 1) (drop (i + 1) s))
-  zero-here e = zero-at ∙ ap (λ (b : Bool). b && all_zero (take (m - 1) (drop (i + 1) s))) (eq-eqb _ _ e)
-
-  pub set_here : (get_or s i 0 ≡ 0 → ⊥) → all_zero (take m (drop i s)) ≡ false
-  set_here e = zero-at ∙ ap (λ (b : Bool). b && all_zero (take (m - 1) (drop (i + 1) s))) (ne_eqb _ _ e)
-
-pub zero-none : (s : List ℕ) (m : ℕ) → m ≡ 0 → all_zero (take m s) ≡ true
+pub zeros_all : (s : List ℕ) → all_zero s ≡ list_all (λ b. eqb b 0) s
 unfolding all_zero
-zero-none s m e = rw e refl
+zeros_all [] = refl
+zeros_all (b ∷ s) = rw (zeros_all s) refl
 
 -- of the cells from k on
 module _ (w : ℕ) (F : Format) (net : List Cell) (s : List ℕ) (k : ℕ) (h : k < length net) (c : Cell) (e : cell_at net k ≡ c) where

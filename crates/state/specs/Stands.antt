@@ -1,10 +1,10 @@
 -- What looking at a state asks of its bytes, that the cells looked at stand in it; and what refusal 15 leaves: its number and its lines are right.
 -- Assumes nothing: definitions.
+use Rattle.model.specs.Refusals.{Accepted}
 use Rattle.std.specs.Prelude.{List, ◌≡◌, ℕ, ◌+◌, ◌<◌, ◌≤◌, length}
 use Rattle.model.specs.declared.Cell.{Cell}
 use Rattle.model.specs.declared.Format.{Format}
 use Rattle.model.specs.declared.Format.TheVariants.{Full, Compact}
-use Rattle.model.specs.declared.Checked.TheVariants.{Accepted}
 use Rattle.model.specs.Circuit.{cell_at, Netlist}
 use Rattle.model.specs.NetlistFile.{cell_limit, file_check, net_of}
 use Rattle.model.specs.State.{cell_size, base, state_size, left_at, flight_of, flight}

@@ -17,15 +17,13 @@ fn ones(s: &[u8], k: usize, d: u8) -> u32
     requires { Stands Full s.now k }
     ensures { result ≡ ones (line_bit Full s.now k d) d }
 {
-    let mut at = wires::base(Format::Full, k) + STATE_LINE;
-    let mut left = d;
+    let at = wires::base(Format::Full, k) + STATE_LINE;
+    let whole = usize::from(d / 8);
     let mut sum: u32 = 0;
-    while 8 <= left {
-        sum += u8::count_ones(s[at]);
-        at += 1;
-        left -= 8;
+    for i in 0..whole {
+        sum += s[at + i].count_ones();
     }
-    sum + u8::count_ones(s[at] % (1u8 << left))
+    sum + (s[at + whole] % (1u8 << (d % 8))).count_ones()
 }
 
 // How many pulses are in the line of a delay of d.
@@ -37,7 +35,7 @@ fn in_line(format: Format, s: &[u8], k: usize, d: u8) -> u32
         Format::Full => ones(s, k, d),
         Format::Compact => {
             let left = s[wires::base(format, k) + COMPACT_LEFT];
-            word::bit((0 < left) & (left <= d)) as u32
+            u32::from((0 < left) & (left <= d))
         }
     }
 }
@@ -55,7 +53,7 @@ fn in_flight(format: Format, c: Cell, s: &[u8], k: usize) -> u32
         return wires::held_bits(wires::held_at(format, s, k));
     }
     if kind == 32 {
-        return wires::remaining_at(format, s, k) as u32;
+        return u32::from(wires::remaining_at(format, s, k));
     }
     0
 }
@@ -66,11 +64,9 @@ pub fn flight(format: Format, file: &[u8], n: usize, s: &[u8]) -> u32
     ensures { result ≡ flight format (net_of file.now) s.now }
 {
     let mut sum: u32 = 0;
-    let mut k: usize = 0;
-    while k < n {
+    for k in 0..n {
         let c = netlist::cells::cell_at(file, Layout::InFile, k);
         sum += in_flight(format, c, s, k);
-        k += 1;
     }
     sum
 }

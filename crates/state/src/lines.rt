@@ -16,8 +16,8 @@ fn oldest(state: &[u8], at: usize, d: u8) -> u16
     requires { (at + 40 ≤ length state.now) × (1 ≤ d) }
     ensures { result ≡ get_or state.now (at + 8 + (d - 1) / 8) 0 / 2 ^ ((d - 1) % 8) % 2 }
 {
-    let i = (d as usize) - 1;
-    let byte = state[at + STATE_LINE + i / 8] as u16;
+    let i = usize::from(d) - 1;
+    let byte = u16::from(state[at + STATE_LINE + i / 8]);
     (byte >> (i % 8)) % 2
 }
 
@@ -38,15 +38,12 @@ fn shift_line(state: &mut [u8], at: usize, input: bool)
     requires { at + 40 ≤ length state.old }
     ensures { state.new ≡ shifted_in 32 state.old (at + 8) (bit input) }
 {
-    let mut i = at + STATE_LINE;
-    let mut left: usize = LINE;
+    let first = at + STATE_LINE;
     let mut carry = word::bit(input);
-    while 0 < left {
-        let v = 2 * (state[i] as u16) + carry;
-        state[i] = (v % 256) as u8;
+    for i in 0..LINE {
+        let v = 2 * u16::from(state[first + i]) + carry;
+        state[first + i] = (v % 256) as u8;
         carry = v / 256;
-        i += 1;
-        left -= 1;
     }
 }
 
@@ -56,8 +53,7 @@ fn count_down(state: &mut [u8], i: usize, d: u8, input: bool)
     requires { i < length state.old }
     ensures { state.new ≡ set state.old i (pick input d (get_or state.old i 0 - 1)) }
 {
-    let left = state[i];
-    let less = if 0 < left { left - 1 } else { 0 };
+    let less = state[i].saturating_sub(1);
     state[i] = if input { d } else { less };
 }
 

@@ -18,26 +18,18 @@ fn all_zero(s: &[u8], i: usize, n: usize) -> bool
     requires { i + n ≤ length s.now }
     ensures { result ≡ all_zero (take n (drop i s.now)) }
 {
-    let mut at = i;
-    let mut left = n;
-    while 0 < left {
-        if s[at] != 0 {
-            return false;
-        }
-        at += 1;
-        left -= 1;
-    }
-    true
+    s[i..i + n].iter().all(|b| *b == 0)
 }
 
 // The most instants that a start can have left, with pulses of this length; any other cell has none.
 fn most_left(pulse: u8, c: Cell) -> u8
     ensures { result ≡ pick (eqb c.kind 32) (pulse - 1) 0 }
 {
-    if (c.kind == 32) & (0 < pulse) {
-        return pulse - 1;
+    if c.kind == 32 {
+        pulse.saturating_sub(1)
+    } else {
+        0
     }
-    0
 }
 
 // Whether the bytes of a line, and those beside it, are such as cell k, which is c, could have.
@@ -74,7 +66,7 @@ fn cell_sound(format: Format, pulse: u8, c: Cell, s: &[u8], k: usize) -> bool
     let now = wires::now_at(format, s, k);
     let ago = wires::before_at(format, s, k);
     let values = !netlist::kinds::is_control(kind) | ((now <= 1) & (ago <= 1));
-    let held = ((s[at + 4] as u16) <= most_a) & ((s[at + 5] as u16) <= most_b);
+    let held = (u16::from(s[at + 4]) <= most_a) & (u16::from(s[at + 5]) <= most_b);
     let line = line_sound(format, pulse, c, s, k);
     values & (held & line)
 }
@@ -83,18 +75,16 @@ fn cells_sound(format: Format, file: &[u8], h: Header, s: &[u8]) -> bool
     requires { Runs format file.now s.now × (h ≡ header_of file.now) }
     ensures { result ≡ cells_sound format (pulse_of file.now) (cells_of file.now) s.now 0 }
 {
-    let n = h.count;
-    let mut k: usize = 0;
-    while k < n {
+    for k in 0..h.count {
         let c = netlist::cells::cell_at(file, Layout::InFile, k);
         if !cell_sound(format, h.pulse, c, s, k) {
             return false;
         }
-        k += 1;
     }
     true
 }
 
+#[tactic(auto, unfolding(model::specs::State::sound))]
 pub fn is_sound(format: Format, file: &[u8], h: Header, s: &[u8]) -> bool
     requires { Runs format file.now s.now × (h ≡ header_of file.now) }
     ensures { result ≡ sound format (net_of file.now) s.now }

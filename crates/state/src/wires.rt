@@ -1,5 +1,6 @@
 // One cell's bytes in a state: where they stand, its values, its held bits; and where an element's word stands.
-// Each contract is an equation with model/State; the cell stands in the state.
+// Each contract is an equation with model/State; the cell stands in the state. Format, bytes and cell are parameters of their own, and kinds
+// are numbers: crate simulator calls these so.
 ghost use Rattle.std.specs.Prelude.{◌≡◌, not, ◌&&◌, ◌+◌, ◌*◌, ◌<◌, ◌≤◌};
 ghost use Rattle.model.specs.Word.{pick, bit, element_of};
 ghost use Rattle.model.specs.Circuit.{high, remaining_step, step_of};
@@ -77,9 +78,10 @@ pub fn element_place(format: Format, n: usize, array: usize, w: u16) -> usize
     ensures { result ≡ base format n + 2 * element_of array w }
 {
     let at = base(format, n);
-    at + 2 * (64 * array + (w % 64) as usize)
+    at + 2 * (64 * array + usize::from(w % 64))
 }
 
+#[tactic(auto, unfolding(model::specs::State::held_at))]
 pub fn held_at(format: Format, state: &[u8], k: usize) -> Merge
     requires { Stands format state.now k }
     ensures { result ≡ held_at format state.now k }
@@ -91,10 +93,11 @@ pub fn held_at(format: Format, state: &[u8], k: usize) -> Merge
 }
 
 // How many bits a merge holds.
+#[tactic(auto, unfolding(model::specs::Word::bit))]
 pub fn held_bits(m: Merge) -> u32
     ensures { result ≡ held_bits m }
 {
-    (word::bit(m.a) as u32) + (word::bit(m.b) as u32)
+    u32::from(m.a) + u32::from(m.b)
 }
 
 // One instant of a merge of this kind with inputs a and b, which put out `was` an instant ago; with pulses of this length.
@@ -119,16 +122,18 @@ pub fn merged(format: Format, state: &[u8], k: usize, pulse: u8, kind: u8, a: bo
     word::bit(m.out)
 }
 
+#[tactic(auto, unfolding(model::specs::State::holding, model::specs::Word::bit))]
 pub fn hold(format: Format, state: &mut [u8], k: usize, m: Merge)
     requires { Stands format state.old k }
     ensures { state.new ≡ holding format state.old k m }
 {
     let at = base(format, k);
-    state[at + 4] = word::bit(m.a) as u8;
-    state[at + 5] = word::bit(m.b) as u8;
+    state[at + 4] = u8::from(m.a);
+    state[at + 5] = u8::from(m.b);
 }
 
 // Where the start's remaining high instants stand: the first byte of its line.
+#[tactic(auto, unfolding(model::specs::State::remaining_byte))]
 pub fn remaining_byte(format: Format, k: usize) -> usize
     requires { k ≤ cell_limit }
     ensures { result ≡ remaining_byte format k }
@@ -148,14 +153,13 @@ pub fn remaining_at(format: Format, state: &[u8], k: usize) -> u8
 }
 
 // How many remain after an instant in which the start is high or not.
+#[tactic(auto, unfolding(model::specs::Circuit::remaining_step))]
 pub fn remaining_step(pulse: u8, remaining: u8, high: bool) -> u8
     ensures { result ≡ remaining_step pulse remaining high }
 {
-    if remaining == 0 {
-        if high & (0 < pulse) {
-            return pulse - 1;
-        }
-        return 0;
+    if (remaining == 0) & high {
+        pulse.saturating_sub(1)
+    } else {
+        remaining.saturating_sub(1)
     }
-    remaining - 1
 }

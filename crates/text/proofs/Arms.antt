@@ -1,14 +1,22 @@
 -- The tests of model/Reader: what the reader does at a token, for each way that the tests can come out. Assumes nothing.
-use Rattle.std.proofs.Common.{◌≡◌, ℕ, true, false, ◌&&◌, ◌||◌, eqb, leb, List, length, sym, refl, ap, ◌∙◌, ne_eqb}
+use Rattle.std.proofs.Common.{◌≡◌, ℕ, true, false, ◌&&◌, ◌||◌, eqb, leb, List, length, ◌+◌, ◌≤◌, sym, refl, ap, ◌∙◌, eq-eqb, ne_eqb, arith}
+use Rattle.std.proofs.lemmas.Bool.{eqb-false}
 use Rattle.model.specs.declared.texts.Token.{Token}
 use Rattle.model.specs.declared.texts.Mode.{Mode}
 use Rattle.model.specs.declared.texts.Mode.TheVariants.{Statement, AfterStatement, Operand, AfterOperand, Becomes, Ticks, Delay, Body}
 use Rattle.model.specs.Program.{node}
 use Rattle.model.specs.Reader.{Reader, pop, top_code, top_start, comparison, broken, leaf, opened, opened_node, between, closed, turned, reduced, with_delay, on_statement, on_operand, on_after_operand, on_after_statement, on_delay, on_body, step_of, step}
+use Rattle.laws.specs.Refusals.Laws.{by_bool}
+use Rattle.text.specs.declared.frames.Open.{Open}
 use Rattle.text.specs.declared.frames.Popped.{Popped}
 use Rattle.text.specs.declared.machine.Machine.{Machine}
 use Rattle.text.specs.Shown.{frames_in, Pops, Lists, lists, Shows, with_mode, rewound}
 use Rattle.text.proofs.Stack.{frames-length}
+
+-- one of two codes next to each other
+one-of : (c k : ℕ) → k ≤ c → c ≤ k + 1 → (eqb c k || eqb c (k + 1)) ≡ true
+one-of c k low high =
+    by_bool (eqb c k) (λ e. rw e refl) (λ e. let n : c ≡ k + 1 = omega (arith, eqb-false c k e) in rw (e, eq-eqb c (k + 1) n) refl)
 
 module _ (t : Token) (r : Reader) where
   -- A statement is expected ----------------------------------------------------------------------------------------------------------
@@ -33,21 +41,31 @@ module _ (t : Token) (r : Reader) where
   unfolding on_statement
   statement-brace e = rw e refl
 
-  module _ (a : t.code ≡ 16 → ⊥) (b : t.code ≡ 17 → ⊥) (d : t.code ≡ 2 → ⊥) where
-    pub statement-condition : (eqb t.code 21 || eqb t.code 22) ≡ true → on_statement t r ≡ opened_node Operand t.code (node t.code 0 0) r
-    unfolding on_statement
-    statement-condition e = rw (ne_eqb t.code 16 a, ne_eqb t.code 17 b, ne_eqb t.code 2 d, e) refl
+  pub statement-condition : 21 ≤ t.code → t.code ≤ 22 → on_statement t r ≡ opened_node Operand t.code (node t.code 0 0) r
+  unfolding on_statement
+  statement-condition low high =
+      rw (ne_eqb t.code 16 (λ e. omega (arith, e)), ne_eqb t.code 17 (λ e. omega (arith, e)), ne_eqb t.code 2 (λ e. omega (arith, e)), one-of t.code 21 low high) refl
 
-    pub statement-broken : (eqb t.code 21 || eqb t.code 22) ≡ false → (t.code ≡ 23 → ⊥) → (t.code ≡ 40 → ⊥) → on_statement t r ≡ broken r
-    unfolding on_statement
-    statement-broken e f g =
-        rw (ne_eqb t.code 16 a, ne_eqb t.code 17 b, ne_eqb t.code 2 d, e, ne_eqb t.code 23 f, ne_eqb t.code 40 g) refl
+  pub statement-broken : (t.code ≡ 16 → ⊥) → (t.code ≡ 17 → ⊥) → (t.code ≡ 2 → ⊥) → (t.code ≡ 21 → ⊥) → (t.code ≡ 22 → ⊥) → (t.code ≡ 23 → ⊥)
+      → (t.code ≡ 40 → ⊥) → on_statement t r ≡ broken r
+  unfolding on_statement
+  statement-broken a b d e f g h =
+      rw (
+        ne_eqb t.code 16 a,
+        ne_eqb t.code 17 b,
+        ne_eqb t.code 2 d,
+        ne_eqb t.code 21 e,
+        ne_eqb t.code 22 f,
+        ne_eqb t.code 23 g,
+        ne_eqb t.code 40 h,
+      )
+      refl
 
   -- An expression is expected --------------------------------------------------------------------------------------------------------
 
-  pub operand-leaf : (eqb t.code 1 || eqb t.code 2) ≡ true → on_operand t r ≡ leaf AfterOperand (node t.code 0 t.value) r
+  pub operand-leaf : 1 ≤ t.code → t.code ≤ 2 → on_operand t r ≡ leaf AfterOperand (node t.code 0 t.value) r
   unfolding on_operand
-  operand-leaf e = rw e refl
+  operand-leaf low high = rw (one-of t.code 1 low high) refl
 
   pub operand-complement : t.code ≡ 3 → on_operand t r ≡ opened_node Operand 3 (node 3 0 0) r
   unfolding on_operand
@@ -57,9 +75,9 @@ module _ (t : Token) (r : Reader) where
   unfolding on_operand
   operand-paren e = rw e refl
 
-  pub operand-broken : (eqb t.code 1 || eqb t.code 2) ≡ false → (t.code ≡ 3 → ⊥) → (t.code ≡ 38 → ⊥) → on_operand t r ≡ broken r
+  pub operand-broken : (t.code ≡ 1 → ⊥) → (t.code ≡ 2 → ⊥) → (t.code ≡ 3 → ⊥) → (t.code ≡ 38 → ⊥) → on_operand t r ≡ broken r
   unfolding on_operand
-  operand-broken a b d = rw (a, ne_eqb t.code 3 b, ne_eqb t.code 38 d) refl
+  operand-broken a b d e = rw (ne_eqb t.code 1 a, ne_eqb t.code 2 b, ne_eqb t.code 3 d, ne_eqb t.code 38 e) refl
 
   -- An operand was read --------------------------------------------------------------------------------------------------------------
 
@@ -182,17 +200,17 @@ module _ (t : Token) (r : Reader) where
 
 -- The frame on top -------------------------------------------------------------------------------------------------------------------
 
-module _ {c s n : List ℕ} {r : Reader} {m : Machine} (h : Shows r m (lists c s n)) where
-  pub top-shown : {top : ℕ} → top ≡ top_code (frames_in c s m.height) → top ≡ top_code r.frames
+module _ {s : List Open} {n : List ℕ} {r : Reader} {m : Machine} (h : Shows r m (lists s n)) where
+  pub top-shown : {top : ℕ} → top ≡ top_code (frames_in s m.height) → top ≡ top_code r.frames
   top-shown e = rw h.frames at e
 
-  pub start-shown : {p : ℕ} → p ≡ top_start (frames_in c s m.height) → p ≡ top_start r.frames
+  pub start-shown : {p : ℕ} → p ≡ top_start (frames_in s m.height) → p ≡ top_start r.frames
   start-shown e = rw h.frames at e
 
-  pub popped-shown : (reach : ℕ) {p : Popped} {top : ℕ} → Pops c s reach m.start m.height p → top ≡ top_code (frames_in c s p.height)
+  pub popped-shown : (reach : ℕ) {p : Popped} {top : ℕ} → Pops s reach m.start m.height p → top ≡ top_code (frames_in s p.height)
       → top ≡ top_code (pop reach r.start r.frames).frames
   popped-shown reach {p} pops e =
-      let f : frames_in c s p.height ≡ (pop reach r.start r.frames).frames = rw (h.start, h.frames) at pops.frames in rw f at e
+      let f : frames_in s p.height ≡ (pop reach r.start r.frames).frames = rw (h.start, h.frames) at pops.frames in rw f at e
 
-pub empty-shown : (c s : List ℕ) (h : ℕ) {p : Popped} → Pops c s 0 0 h p → eqb p.height 0 ≡ eqb (length (pop 0 0 (frames_in c s h)).frames) 0
-empty-shown c s h {p} pops = rw (← pops.frames, frames-length c s p.height) refl
+pub empty-shown : (s : List Open) (h : ℕ) {p : Popped} → Pops s 0 0 h p → eqb p.height 0 ≡ eqb (length (pop 0 0 (frames_in s h)).frames) 0
+empty-shown s h {p} pops = rw (← pops.frames, frames-length s p.height) refl

@@ -1,56 +1,32 @@
 -- Nodes in bytes: a node more, and a delay. Assumes nothing.
-use Rattle.std.proofs.Common.{◌≡◌, ℕ, zero, suc, ◌+◌, ◌-◌, ◌*◌, ◌<◌, ◌≤◌, min, List, [], ◌∷◌, ◌++◌, length, get_or, take, drop, set, sym, refl, ap, ◌∙◌, append_assoc, arith, length-append, length-drop, length-set, drop_of_length-le, length-take, length-take-le, drop-cons, get_or-take, take-suc, take-take, take_at, drop_at}
+use Rattle.std.proofs.Common.{◌≡◌, ℕ, zero, suc, ◌+◌, ◌-◌, ◌*◌, ◌<◌, ◌≤◌, min, List, [], ◌∷◌, ◌++◌, length, get_or, take, drop, set, sym, refl, ap, ◌∙◌, append_assoc, arith, length-append, length-drop, length-set, length-take, length-take-le, take-take, take_at, drop_at}
+use Rattle.std.specs.List.{copy_within}
+use Rattle.std.proofs.lemmas.List.{drop-take}
 use native.Mathlib.Numerals.{towards_suc}
-use lib.ListN.{get_or-append}
-use lib.Seq.{sets, sets-eq, set_at, take-append-le, take-set-lt, set_out}
+use lib.Seq.{sets, sets-eq, take-append-le, take-set-lt, set_out}
 use Rattle.model.specs.declared.Node.{Node}
 use Rattle.model.specs.Word.{bytes16, put16}
 use Rattle.model.specs.Program.{node, node_bytes}
 use Rattle.model.specs.Reader.{insert_at, with_node_delay}
-use Rattle.text.specs.Shown.{shifted, Keeps}
+use Rattle.text.specs.Shown.{Keeps}
 
 -- Bytes that move ----------------------------------------------------------------------------------------------------------------------
 
+-- what stands in d from a to e has moved four bytes on; from a on four bytes are as they were
+abbrev shifted : ℕ → ℕ → List ℕ → List ℕ
+shifted a e d = take (a + 4) d ++ (drop a (take e d) ++ drop (e + 4) d)
+
+moved : (d : List ℕ) (a e : ℕ) → a ≤ e → copy_within d a e (a + 4) ≡ shifted a e d
+moved d a e h =
+    let f : a + (e - a) ≡ e = omega arith in
+    let g : a + 4 + (e - a) ≡ e + 4 = omega arith in
+    let t : drop a (take e d) ≡ take (e - a) (drop a d) = rw f at (drop-take a (e - a) d) in
+    rw (g, t, append_assoc) refl
+
 module _ (d : List ℕ) (e : ℕ) (fits : e + 4 ≤ length d) where
-  pub shift_none : shifted e e d ≡ d
-  unfolding shifted
-  shift_none =
-      let n : drop e (take e d) ≡ [] = drop_of_length-le (take e d) {i = e} (rw (length-take-le e d (omega arith)) (omega arith)) in
-      rw n (lib.ListN.take-append-drop (e + 4) d)
-
-  module _ (j : ℕ) (more : j < e) where
-    long : length (take (suc j + 4) d) ≡ suc j + 4
-    long = length-take-le (suc j + 4) d (omega arith)
-
-    moved : get_or (shifted (suc j) e d) j 0 ≡ get_or d j 0
-    unfolding shifted
-    moved =
-        get_or-append (take (suc j + 4) d) _ 0 j (rw long (omega arith)) ∙ get_or-take (suc j + 4) d j 0 (omega arith)
-
-    front : take (suc j + 4) d ≡ take (j + 4) d ++ (get_or d (j + 4) 0 ∷ [])
-    front = let s : suc j + 4 ≡ suc (j + 4) = omega arith in rw s (take-suc d (j + 4) 0 (omega arith))
-
-    next : drop j (take e d) ≡ get_or d j 0 ∷ drop (suc j) (take e d)
-    next =
-        rw (← get_or-take e d j 0 more)
-        (drop-cons (take e d) j 0 (rw (length-take-le e d (omega arith)) more))
-
-    pub shift_suc : set (shifted (suc j) e d) (j + 4) (get_or (shifted (suc j) e d) j 0) ≡ shifted j e d
-    unfolding shifted
-    shift_suc =
-        let rest = drop (suc j) (take e d) ++ drop (e + 4) d in
-        let l : length (take (j + 4) d) ≡ j + 4 = length-take-le (j + 4) d (omega arith) in
-        let f : take (suc j + 4) d ++ rest ≡ take (j + 4) d ++ (get_or d (j + 4) 0 ∷ rest) = rw (front, append_assoc) refl in
-        rw (moved, f, set_at (take (j + 4) d) (get_or d (j + 4) 0) rest (get_or d j 0) (j + 4) l, next) refl
-
-  pub shift-more : (i : ℕ) → 0 < i → i ≤ e → set (shifted i e d) (i - 1 + 4) (get_or (shifted i e d) (i - 1) 0) ≡ shifted (i - 1) e d
-  shift-more zero n h = absurd (omega arith)
-  shift-more (suc j) n h = let s : suc j - 1 ≡ j = omega arith in rw s (shift_suc j (omega arith))
-
   -- four bytes put in at a
   module _ (a : ℕ) (below : a ≤ e) (vs : List ℕ) (four : length vs ≡ 4) where
     pub shift-put : take (e + 4) (sets (shifted a e d) a vs) ≡ take a d ++ (vs ++ drop a (take e d))
-    unfolding shifted
     shift-put =
         let rest = drop a (take e d) ++ drop (e + 4) d in
         let l : length (take (a + 4) d) ≡ a + 4 = length-take-le (a + 4) d (omega arith) in
@@ -122,13 +98,14 @@ module _ (d : List ℕ) (p : ℕ) (n : Node) (ns : List Node) (long : length d �
   unfolding Keeps
   insert-past h = λ few. absurd (omega (arith, insert-length p n ns))
 
-  pub insert-here : {q : ℕ} {d' d'' : List ℕ} → length ns < 200 → q ≡ min p (length ns) → d' ≡ shifted (4 * q) (4 * length ns) d
+  pub insert-here : {q : ℕ} {d' d'' : List ℕ} → length ns < 200 → q ≡ min p (length ns) → d' ≡ copy_within d (4 * q) (4 * length ns) (4 * q + 4)
       → d'' ≡ put16 (set (set d' (4 * q) n.kind) (4 * q + 1) n.delay) (4 * q + 2) n.n → Keeps d ns → Keeps d'' (insert_at p n ns)
   unfolding Keeps node_bytes four_bytes bytes16
   insert-here {q} {d'} {d''} h m e f k =
       λ few.
       let was : take (4 * length ns) d ≡ node_bytes ns = k (omega arith) in
-      let g : d'' ≡ sets (shifted (4 * q) (4 * length ns) d) (4 * q) (four_bytes n) = rw (← e) (put-node d' (4 * q) n f) in
+      let g : d'' ≡ sets (shifted (4 * q) (4 * length ns) d) (4 * q) (four_bytes n)
+      = rw (← moved d (4 * q) (4 * length ns) (omega arith), ← e) (put-node d' (4 * q) n f) in
       let before : take (4 * q) d ≡ node_bytes (take q ns)
       = sym (take-take (4 * q) (4 * length ns) d (omega arith)) ∙ (ap (take (4 * q)) was ∙ bytes_take q ns) in
       let behind : drop (4 * q) (take (4 * length ns) d) ≡ node_bytes (drop q ns) = ap (drop (4 * q)) was ∙ bytes_drop q ns in

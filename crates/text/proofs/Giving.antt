@@ -1,14 +1,10 @@
 -- What is told of a text's program, check by check.
 -- Assumes nothing.
-use Rattle.std.proofs.Common.{◌≡◌, ℕ, ◌*◌, ◌<◌, ◌≤◌, ltb, List, [], ◌∷◌, ◌++◌, length, take, sym, refl, ap, ◌∙◌, arith, ltb-false, ltb-true, le-ltb, lt-ltb}
+use Rattle.std.proofs.Common.{◌≡◌, ℕ, ◌*◌, ◌<◌, ◌≤◌, ltb, List, [], ◌∷◌, ◌++◌, length, take, sym, refl, ap, ◌∙◌, arith, ltb-false, ltb-true, le-ltb, lt-ltb, Ok, Err}
 use Rattle.model.specs.declared.Node.{Node}
 use Rattle.model.specs.declared.Refusal.{Refusal}
 use Rattle.model.specs.declared.Options.{Options}
-use Rattle.model.specs.declared.Checked.{Checked}
-use Rattle.model.specs.declared.Checked.TheVariants.{Accepted, Refused}
-use Rattle.model.specs.declared.Written.{Written}
-use Rattle.model.specs.declared.Written.TheVariants.{Done}
-use Rattle.model.specs.Refusals.{refuse, refuse_if, first}
+use Rattle.model.specs.Refusals.{refuse, refuse_if, first, Checked, Accepted, Done}
 use Rattle.model.specs.Program.{node_bytes}
 use Rattle.model.specs.ProgramChecks.{check_of}
 use Rattle.model.specs.Text.{words_of, outside}
@@ -24,8 +20,8 @@ use Rattle.text.specs.Shown.{Keeps}
 use Rattle.text.specs.Parsing.{parse_checks, program_told, Given, give_checks, give_call}
 
 -- a text that is refused gives no program
-module _ (text d : List ℕ) (r : Refusal) (e : first (parse_checks text) ≡ Refused r) where
-  pub refused-told : program_told text ≡ Written.Refused r
+module _ (text d : List ℕ) (r : Refusal) (e : first (parse_checks text) ≡ Err r) where
+  pub refused-told : program_told text ≡ Err r
   unfolding program_told writing
   refused-told = ap (λ (c : Checked). (writing c [] (length (text_program text)) 0 []).answer) e
 
@@ -37,7 +33,7 @@ pub too_long : (text : List ℕ) → 4096 < length text → first (parse_checks 
 too_long text h = rw (lt-ltb 4096 (length text) h) refl
 
 module _ (text : List ℕ) (h : length text ≤ 4096) where
-  pub word-outside : (r : Refusal) → outside (words_of text) ≡ Refused r → first (parse_checks text) ≡ Refused r
+  pub word-outside : (r : Refusal) → outside (words_of text) ≡ Err r → first (parse_checks text) ≡ Err r
   word-outside r e = rw (le-ltb 4096 (length text) h, e) refl
 
   module _ (e : outside (words_of text) ≡ Accepted) where
@@ -78,7 +74,7 @@ module _ (options : Options) (program lent : List ℕ) where
   unfolding give_call
   given_by e = ap (λ (c : Checked). writing c program (length program) 0 lent) e
 
-  pub give-refused : (r : Refusal) → check_call options program ≡ Refused r → give_call options program lent ≡ writing (Refused r) program (length program) 0 lent
+  pub give-refused : (r : Refusal) → check_call options program ≡ Err r → give_call options program lent ≡ writing (Err r) program (length program) 0 lent
   give-refused r e = given_by (rw e refl)
 
   module _ (e : check_call options program ≡ Accepted) where
@@ -91,8 +87,8 @@ module _ (options : Options) (program lent : List ℕ) where
 -- A text and the checks of its program ---------------------------------------------------------------------------------------------------
 
 -- a program that is too long is refused before anything else
-too_many : (options : Options) (program : List ℕ) (r : Refusal) (cs : List Checked) → refuse_if (ltb 800 (length program)) 1 0 ≡ Refused r
-    → first (check_of options program ∷ cs) ≡ Refused r
+too_many : (options : Options) (program : List ℕ) (r : Refusal) (cs : List Checked) → refuse_if (ltb 800 (length program)) 1 0 ≡ Err r
+    → first (check_of options program ∷ cs) ≡ Err r
 too_many options program r cs e =
     by_bool (ltb 800 (length program))
     (λ z. rw (long-refused options program (ltb-true 800 (length program) z)) (rw z at e))
@@ -103,13 +99,13 @@ module _ (text : List ℕ) where
   room = refuse_if (ltb 800 (length (text_program text))) 1 0
 
   -- what refuses the program of a text refuses every call on it
-  pub parse-refuses : (options : Options) (r : Refusal) (cs : List Checked) → first (parse_checks text) ≡ Refused r
-      → first (text_checks text ++ (check_of options (text_program text) ∷ cs)) ≡ Refused r
+  pub parse-refuses : (options : Options) (r : Refusal) (cs : List Checked) → first (parse_checks text) ≡ Err r
+      → first (text_checks text ++ (check_of options (text_program text) ∷ cs)) ≡ Err r
   parse-refuses options r cs e = go (first (text_checks text)) refl
     where
-      go : (c : Checked) → first (text_checks text) ≡ c → first (text_checks text ++ (check_of options (text_program text) ∷ cs)) ≡ Refused r
-      go (Refused q) z = refused-append (text_checks text) (check_of options (text_program text) ∷ cs) q z ∙ sym (refused-append (text_checks text) (room ∷ []) q z) ∙ e
-      go Accepted z =
+      go : (c : Checked) → first (text_checks text) ≡ c → first (text_checks text ++ (check_of options (text_program text) ∷ cs)) ≡ Err r
+      go (Err q) z = refused-append (text_checks text) (check_of options (text_program text) ∷ cs) q z ∙ sym (refused-append (text_checks text) (room ∷ []) q z) ∙ e
+      go (Ok _) z =
           first-append (text_checks text) (check_of options (text_program text) ∷ cs) z
           ∙ too_many options (text_program text) r cs (first_one room ∙ sym (first-append (text_checks text) (room ∷ []) z) ∙ e)
 
@@ -127,7 +123,7 @@ module _ (text : List ℕ) where
   unfolding program_told
   verdict-is = writing-verdict (first (parse_checks text)) [] (length (text_program text)) 0 []
 
-  pub told-refused : (r : Refusal) → program_told text ≡ Written.Refused r → first (parse_checks text) ≡ Refused r
+  pub told-refused : (r : Refusal) → program_told text ≡ Err r → first (parse_checks text) ≡ Err r
   unfolding written_verdict
   told-refused r e = sym verdict-is ∙ ap written_verdict e
 
@@ -157,8 +153,8 @@ module _ (options : Options) (text lent : List ℕ) where
   read_by e = ap (λ (c : Checked). writing c (text_program text) (length (text_program text)) 0 lent) e
 
   -- a table that is refused comes first
-  pub read-no-table : (r : Refusal) → given_check options ≡ Refused r
-      → read_text_call options text lent ≡ writing (Refused r) (text_program text) (length (text_program text)) 0 lent
+  pub read-no-table : (r : Refusal) → given_check options ≡ Err r
+      → read_text_call options text lent ≡ writing (Err r) (text_program text) (length (text_program text)) 0 lent
   read-no-table r e = read_by (rw e refl)
 
   module _ (a : given_check options ≡ Accepted) where
@@ -168,8 +164,8 @@ module _ (options : Options) (text lent : List ℕ) where
     behind-table : first (read_text_checks options text lent) ≡ first (text_checks text ++ after)
     behind-table = ap (λ (c : Checked). first (c ∷ text_checks text ++ after)) a
 
-    pub read-refused : (r : Refusal) → first (parse_checks text) ≡ Refused r
-        → read_text_call options text lent ≡ writing (Refused r) (text_program text) (length (text_program text)) 0 lent
+    pub read-refused : (r : Refusal) → first (parse_checks text) ≡ Err r
+        → read_text_call options text lent ≡ writing (Err r) (text_program text) (length (text_program text)) 0 lent
     read-refused r e =
         read_by (behind-table ∙ parse-refuses text options r (short (length lent) (length (text_program text)) ∷ []) e)
 

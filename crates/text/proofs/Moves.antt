@@ -5,6 +5,7 @@ use Rattle.model.specs.declared.texts.Mode.TheVariants.{Statement}
 use Rattle.model.specs.declared.Node.{Node}
 use Rattle.model.specs.Program.{node, node_bytes}
 use Rattle.model.specs.Reader.{reader_at_first, frame, reach_of, pop, top_start, insert_at, with_node_delay, leaf, opened, opened_node, between, closed, turned, reduced, with_delay}
+use Rattle.text.specs.declared.frames.Open.{Open}
 use Rattle.text.specs.declared.frames.Popped.{Popped}
 use Rattle.text.specs.declared.machine.Machine.{Machine}
 use Rattle.text.specs.Shown.{frames_in, Pops, Keeps, Lists, lists, Shows, Follows, FollowsWithin, with_mode, rewound}
@@ -26,11 +27,11 @@ pub first-shown : (l : Lists) → Shows reader_at_first (machine Statement 0 0 0
 unfolding frames_in Keeps node_bytes
 first-shown l = record { mode = refl; start = refl; frames = refl; cursor = refl; count = refl; nodes = λ few. refl }
 
-module _ (c s d : List ℕ) (m : Machine) where
+module _ (s : List Open) (d : List ℕ) (m : Machine) where
   -- Nodes --------------------------------------------------------------------------------------------------------------------------------
 
   pub leaf-shown : (d' : List ℕ) (mode : Mode) (n : Node) {u : ℕ} → Inserts m.cursor m.count n d d' → u ≡ (m.cursor + 1) % 65536
-      → FollowsWithin (leaf mode n) m (lists c s d) (machine mode m.cursor m.height u (m.count + 1)) (lists c s d')
+      → FollowsWithin (leaf mode n) m (lists s d) (machine mode m.cursor m.height u (m.count + 1)) (lists s d')
   unfolding leaf
   leaf-shown d' mode n i e r w h =
       record {
@@ -43,7 +44,7 @@ module _ (c s d : List ℕ) (m : Machine) where
       }
 
   pub delay-shown : (d' : List ℕ) (mode : Mode) (p v : ℕ) → Delays p m.count v d d'
-      → Follows (with_delay mode p v) m (lists c s d) (machine mode p m.height m.count m.count) (lists c s d')
+      → Follows (with_delay mode p v) m (lists s d) (machine mode p m.height m.count m.count) (lists s d')
   unfolding with_delay
   delay-shown d' mode p v i r h =
       record {
@@ -57,9 +58,9 @@ module _ (c s d : List ℕ) (m : Machine) where
 
   -- Frames -------------------------------------------------------------------------------------------------------------------------------
 
-  module _ (c' s' : List ℕ) where
-    pub opened-shown : (mode : Mode) (code : ℕ) → frames_in c' s' (m.height + 1) ≡ frame code m.cursor ∷ frames_in c s m.height
-        → Follows (opened mode code) m (lists c s d) (machine mode m.start (m.height + 1) m.cursor m.count) (lists c' s' d)
+  module _ (s' : List Open) where
+    pub opened-shown : (mode : Mode) (code : ℕ) → frames_in s' (m.height + 1) ≡ frame code m.cursor ∷ frames_in s m.height
+        → Follows (opened mode code) m (lists s d) (machine mode m.start (m.height + 1) m.cursor m.count) (lists s' d)
     unfolding opened
     opened-shown mode code e r h =
         record {
@@ -72,9 +73,9 @@ module _ (c s d : List ℕ) (m : Machine) where
         }
 
     pub opened-node-shown : (d' : List ℕ) (mode : Mode) (code : ℕ) (n : Node) {u : ℕ}
-        → frames_in c' s' (m.height + 1) ≡ frame code m.cursor ∷ frames_in c s m.height → Inserts m.cursor m.count n d d'
+        → frames_in s' (m.height + 1) ≡ frame code m.cursor ∷ frames_in s m.height → Inserts m.cursor m.count n d d'
         → u ≡ (m.cursor + 1) % 65536
-        → FollowsWithin (opened_node mode code n) m (lists c s d) (machine mode m.start (m.height + 1) u (m.count + 1)) (lists c' s' d')
+        → FollowsWithin (opened_node mode code n) m (lists s d) (machine mode m.start (m.height + 1) u (m.count + 1)) (lists s' d')
     unfolding opened_node
     opened-node-shown d' mode code n e i t r w h =
         record {
@@ -87,14 +88,14 @@ module _ (c s d : List ℕ) (m : Machine) where
         }
 
     pub between-shown : (d' : List ℕ) (mode : Mode) (code : ℕ) {reach : ℕ} {p : Popped} {u : ℕ} → reach ≡ reach_of code
-        → Pops c s reach m.start m.height p → frames_in c' s' (p.height + 1) ≡ frame code p.start ∷ frames_in c s p.height
+        → Pops s reach m.start m.height p → frames_in s' (p.height + 1) ≡ frame code p.start ∷ frames_in s p.height
         → Inserts p.start m.count (node code 0 0) d d' → u ≡ (m.cursor + 1) % 65536
-        → FollowsWithin (between mode code) m (lists c s d) (machine mode p.start (p.height + 1) u (m.count + 1)) (lists c' s' d')
+        → FollowsWithin (between mode code) m (lists s d) (machine mode p.start (p.height + 1) u (m.count + 1)) (lists s' d')
     unfolding between
     between-shown d' mode code {reach} {p} q pops e i t r w h =
         let p' = pop (reach_of code) r.start r.frames in
         let a : p.start ≡ p'.start = rw (q, h.start, h.frames) at pops.start in
-        let b : frames_in c s p.height ≡ p'.frames = rw (q, h.start, h.frames) at pops.frames in
+        let b : frames_in s p.height ≡ p'.frames = rw (q, h.start, h.frames) at pops.frames in
         record {
           mode = refl;
           start = a;
@@ -104,12 +105,12 @@ module _ (c s d : List ℕ) (m : Machine) where
           nodes = rw a at (i r.nodes h.count h.nodes);
         }
 
-    pub turned-shown : (mode : Mode) (code : ℕ) {p k : ℕ} → p ≡ top_start (frames_in c s m.height) → k ≡ m.height - 1
-        → frames_in c' s' (k + 1) ≡ frame code p ∷ frames_in c s k
-        → Follows (turned mode code) m (lists c s d) (machine mode m.start (k + 1) m.cursor m.count) (lists c' s' d)
+    pub turned-shown : (mode : Mode) (code : ℕ) {p k : ℕ} → p ≡ top_start (frames_in s m.height) → k ≡ m.height - 1
+        → frames_in s' (k + 1) ≡ frame code p ∷ frames_in s k
+        → Follows (turned mode code) m (lists s d) (machine mode m.start (k + 1) m.cursor m.count) (lists s' d)
     unfolding turned
     turned-shown mode code {p} {k} a b e r h =
-        let f : frames_in c s k ≡ drop 1 r.frames = rw (b, ← h.frames) (sym (frames-drop c s m.height)) in
+        let f : frames_in s k ≡ drop 1 r.frames = rw (b, ← h.frames) (sym (frames-drop s m.height)) in
         let g : p ≡ top_start r.frames = rw h.frames at a in
         record {
           mode = refl;
@@ -120,21 +121,21 @@ module _ (c s d : List ℕ) (m : Machine) where
           nodes = h.nodes;
         }
 
-  pub closed-shown : (mode : Mode) {p k : ℕ} → p ≡ top_start (frames_in c s m.height) → k ≡ m.height - 1
-      → Follows (closed mode) m (lists c s d) (machine mode p k m.cursor m.count) (lists c s d)
+  pub closed-shown : (mode : Mode) {p k : ℕ} → p ≡ top_start (frames_in s m.height) → k ≡ m.height - 1
+      → Follows (closed mode) m (lists s d) (machine mode p k m.cursor m.count) (lists s d)
   unfolding closed
   closed-shown mode {p} {k} a b r h =
       record {
         mode = refl;
         start = rw h.frames at a;
-        frames = rw (b, ← h.frames) (sym (frames-drop c s m.height));
+        frames = rw (b, ← h.frames) (sym (frames-drop s m.height));
         cursor = h.cursor;
         count = h.count;
         nodes = h.nodes;
       }
 
-  pub settled-shown : {p : Popped} → Pops c s 0 m.start m.height p
-      → Follows reduced m (lists c s d) (machine m.mode p.start p.height m.cursor m.count) (lists c s d)
+  pub settled-shown : {p : Popped} → Pops s 0 m.start m.height p
+      → Follows reduced m (lists s d) (machine m.mode p.start p.height m.cursor m.count) (lists s d)
   unfolding reduced
   settled-shown {p} pops r h =
       record {
@@ -146,8 +147,8 @@ module _ (c s d : List ℕ) (m : Machine) where
         nodes = h.nodes;
       }
 
-  pub rewound-shown : {p u : ℕ} → p ≡ top_start (frames_in c s m.height) → u ≡ (p + 1) % 65536
-      → FollowsWithin rewound m (lists c s d) (machine m.mode m.start m.height u m.count) (lists c s d)
+  pub rewound-shown : {p u : ℕ} → p ≡ top_start (frames_in s m.height) → u ≡ (p + 1) % 65536
+      → FollowsWithin rewound m (lists s d) (machine m.mode m.start m.height u m.count) (lists s d)
   rewound-shown {p} {u} a e r w h =
       let g : p ≡ top_start r.frames = rw h.frames at a in
       record {
@@ -159,6 +160,6 @@ module _ (c s d : List ℕ) (m : Machine) where
         nodes = h.nodes;
       }
 
-  pub mode-shown : (mode : Mode) → Follows (with_mode mode) m (lists c s d) (machine mode m.start m.height m.cursor m.count) (lists c s d)
+  pub mode-shown : (mode : Mode) → Follows (with_mode mode) m (lists s d) (machine mode m.start m.height m.cursor m.count) (lists s d)
   mode-shown mode r h =
       record { mode = refl; start = h.start; frames = h.frames; cursor = h.cursor; count = h.count; nodes = h.nodes }

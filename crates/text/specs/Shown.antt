@@ -1,25 +1,33 @@
--- What a machine and its three lists show of the reader of model/Reader: the codes and the starts of the frames, and the bytes of the nodes.
+-- What a machine and its two lists show of the reader of model/Reader: the stack of what is still open, and the bytes of the nodes.
 -- Assumes nothing: definitions.
-use Rattle.std.specs.Prelude.{◌≡◌, ℕ, zero, suc, ◌+◌, ◌*◌, ◌<◌, ◌≤◌, max, List, [], ◌∷◌, ◌++◌, length, take, drop, slice_index}
+use Rattle.std.specs.Prelude.{◌≡◌, ℕ, zero, suc, ◌+◌, ◌*◌, ◌<◌, ◌≤◌, max, List, [], ◌∷◌, length, take, slice_index_or}
 use Rattle.model.specs.declared.texts.Mode.{Mode}
 use Rattle.model.specs.declared.texts.Mode.TheVariants.{Statement, AfterStatement, Operand, AfterOperand, Becomes, Ticks, Delay, Body, Broken}
 use Rattle.model.specs.declared.Node.{Node}
 use Rattle.model.specs.Program.{node_bytes}
 use Rattle.model.specs.Reader.{Frame, frame, Reader, reader, pop, top_start}
+use Rattle.text.specs.declared.frames.Open.{Open}
 use Rattle.text.specs.declared.frames.Popped.{Popped}
 use Rattle.text.specs.declared.machine.Machine.{Machine}
 
 -- Frames -------------------------------------------------------------------------------------------------------------------------------
 
+abbrev pub frame_of : Open → Frame
+frame_of x = frame x.code x.start
+
+-- what an empty stack tells of its frame on top
+abbrev pub no_frame : Open
+no_frame = record { code = 0; start = 0 }
+
 -- the frames of a stack that is h high, the one on top first
-unfoldable pub frames_in : List ℕ → List ℕ → ℕ → List Frame
-frames_in codes starts zero = []
-frames_in codes starts (suc h) = frame (slice_index codes h) (slice_index starts h) ∷ frames_in codes starts h
+unfoldable pub frames_in : List Open → ℕ → List Frame
+frames_in stack zero = []
+frames_in stack (suc h) = frame_of (slice_index_or stack h no_frame) ∷ frames_in stack h
 
 -- the operators on top that are complete are taken off
-pub record Pops (codes starts : List ℕ) (reach p h : ℕ) (r : Popped) : Type 0 where
-  pub start : r.start ≡ (pop reach p (frames_in codes starts h)).start
-  pub frames : frames_in codes starts r.height ≡ (pop reach p (frames_in codes starts h)).frames
+pub record Pops (stack : List Open) (reach p h : ℕ) (r : Popped) : Type 0 where
+  pub start : r.start ≡ (pop reach p (frames_in stack h)).start
+  pub frames : frames_in stack r.height ≡ (pop reach p (frames_in stack h)).frames
   pub lower : r.height ≤ h
 
 -- the largest start of all frames
@@ -29,10 +37,6 @@ highest (f ∷ fs) = max f.start (highest fs)
 
 -- Nodes --------------------------------------------------------------------------------------------------------------------------------
 
--- what stands in d from a to e has moved four bytes on; from a on four bytes are as they were
-unfoldable pub shifted : ℕ → ℕ → List ℕ → List ℕ
-shifted a e d = take (a + 4) d ++ (drop a (take e d) ++ drop (e + 4) d)
-
 -- the list begins with the bytes of the nodes, as long as they are at most 200
 unfoldable pub Keeps : List ℕ → List Node → Type 0
 Keeps d ns = length ns ≤ 200 → take (4 * length ns) d ≡ node_bytes ns
@@ -41,25 +45,23 @@ Keeps d ns = length ns ≤ 200 → take (4 * length ns) d ≡ node_bytes ns
 
 -- the lists that a machine works on
 pub record Lists : Type 0 where
-  pub codes : List ℕ
-  pub starts : List ℕ
+  pub stack : List Open
   pub nodes : List ℕ
 
-abbrev pub lists : List ℕ → List ℕ → List ℕ → Lists
-lists c s n = record { codes = c; starts = s; nodes = n }
+abbrev pub lists : List Open → List ℕ → Lists
+lists s n = record { stack = s; nodes = n }
 
 pub record Shows (r : Reader) (m : Machine) (l : Lists) : Type 0 where
   pub mode : m.mode ≡ r.mode
   pub start : m.start ≡ r.start
-  pub frames : frames_in l.codes l.starts m.height ≡ r.frames
+  pub frames : frames_in l.stack m.height ≡ r.frames
   pub cursor : m.cursor ≡ r.cursor
   pub count : m.count ≡ length r.nodes
   pub nodes : Keeps l.nodes r.nodes
 
 -- what a machine asks for a move
 pub record Ready (m : Machine) (l : Lists) : Type 0 where
-  pub codes : length l.codes ≡ 4096
-  pub starts : length l.starts ≡ 4096
+  pub stack : length l.stack ≡ 4096
   pub nodes : length l.nodes ≡ 800
   pub height : m.height < 4096
   pub count : m.count < 4096

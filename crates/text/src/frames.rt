@@ -1,8 +1,18 @@
-// The stack of what is still open: the codes and the starts of the frames, the one on top last.
-// Contracts are equations with the definitions of model/Reader, of the frames that the lists have (`framesIn`, specs/Shown).
-ghost use Rattle.std.specs.Prelude.{◌≡◌, ℕ, ◌+◌, ◌<◌, ◌≤◌, List, ◌∷◌, length};
-ghost use Rattle.model.specs.Reader.{frame, hold_of, reach_of, top_code, top_start};
-ghost use Rattle.text.specs.Shown.{frames_in, Pops};
+// The stack of what is still open, the frame on top last, and how high it is.
+// Contracts are equations with the definitions of model/Reader, of the frames that such a list has (`frames_in`, specs/Shown).
+ghost use Rattle.std.specs.Prelude.{◌≡◌, ◌+◌, ◌<◌, ◌≤◌, ◌∷◌, length};
+ghost use Rattle.model.specs.Reader.{hold_of, reach_of, top_code, top_start};
+ghost use Rattle.text.specs.Shown.{frame_of, frames_in, Pops};
+
+// Something that is still open: the code of its token, and the number of its first node.
+#[derive(Clone, Copy)]
+pub struct Open {
+    pub code: u8,
+    pub start: u16,
+}
+
+// What stands in a stack above its frames, and what an empty one tells of its frame on top.
+pub const NO_FRAME: Open = Open { code: 0, start: 0 };
 
 // Where what was read begins, and how high the stack is.
 #[derive(Clone, Copy)]
@@ -12,101 +22,76 @@ pub struct Popped {
 }
 
 // How tightly what is open holds what follows it.
+#[tactic(auto, unfolding(model::specs::Reader::hold_of))]
 fn hold_of(code: u8) -> u8
     ensures { result ≡ hold_of code }
 {
-    if code == 3 {
-        return 10;
+    match code {
+        3 => 10,
+        4 | 5 => 9,
+        8 | 9 => 7,
+        6 => 5,
+        7 => 3,
+        19 => 4,
+        20 => 2,
+        _ => 0,
     }
-    if (code == 4) | (code == 5) {
-        return 9;
-    }
-    if (code == 8) | (code == 9) {
-        return 7;
-    }
-    if code == 6 {
-        return 5;
-    }
-    if code == 7 {
-        return 3;
-    }
-    if code == 19 {
-        return 4;
-    }
-    if code == 20 { 2 } else { 0 }
 }
 
 // How far a new operator reaches back.
+#[tactic(auto, unfolding(model::specs::Reader::reach_of))]
 pub fn reach_of(code: u8) -> u8
     ensures { result ≡ reach_of code }
 {
-    if (code == 4) | (code == 5) {
-        return 8;
+    match code {
+        4 | 5 => 8,
+        8 | 9 => 7,
+        6 => 4,
+        7 => 2,
+        19 => 5,
+        20 => 3,
+        _ => 0,
     }
-    if (code == 8) | (code == 9) {
-        return 7;
-    }
-    if code == 6 {
-        return 4;
-    }
-    if code == 7 {
-        return 2;
-    }
-    if code == 19 {
-        return 5;
-    }
-    if code == 20 { 3 } else { 0 }
 }
 
 // Takes the operators off that hold more tightly than reach.
-pub fn pop(codes: &[u8], starts: &[u16], reach: u8, start: u16, height: usize) -> Popped
-    requires { (height ≤ length codes.now) × (height ≤ length starts.now) }
-    ensures { Pops codes.now starts.now reach start height result }
+pub fn pop(stack: &[Open], reach: u8, start: u16, height: usize) -> Popped
+    requires { height ≤ length stack.now }
+    ensures { Pops stack.now reach start height result }
 {
     let mut p = start;
-    let mut h = height;
-    while 0 < h {
-        let hold = hold_of(codes[h - 1]);
-        if hold <= reach {
+    for i in (0..height).rev() {
+        let top = stack[i];
+        if hold_of(top.code) <= reach {
             return Popped {
                 start: p,
-                height: h,
+                height: i + 1,
             };
         }
-        p = starts[h - 1];
-        h -= 1;
+        p = top.start;
     }
     Popped {
         start: p,
-        height: h,
+        height: 0,
     }
 }
 
-pub fn top_code(codes: &[u8], height: usize) -> u8
-    requires { height ≤ length codes.now }
-    ensures { (starts : List ℕ) → result ≡ top_code (frames_in codes.now starts height) }
+// The frame on top.
+pub fn top(stack: &[Open], height: usize) -> Open
+    requires { height ≤ length stack.now }
+    ensures code { result.code ≡ top_code (frames_in stack.now height) }
+    ensures start { result.start ≡ top_start (frames_in stack.now height) }
 {
     if height == 0 {
-        return 0;
+        return NO_FRAME;
     }
-    codes[height - 1]
-}
-
-pub fn top_start(starts: &[u16], height: usize) -> u16
-    requires { height ≤ length starts.now }
-    ensures { (codes : List ℕ) → result ≡ top_start (frames_in codes starts.now height) }
-{
-    if height == 0 {
-        return 0;
-    }
-    starts[height - 1]
+    stack[height - 1]
 }
 
 // One frame more on a stack of this height.
-pub fn push(codes: &mut [u8], starts: &mut [u16], height: usize, code: u8, start: u16)
-    requires { (height < length codes.old) × (height < length starts.old) }
-    ensures { frames_in codes.new starts.new (height + 1) ≡ frame code start ∷ frames_in codes.old starts.old height }
+pub fn push(stack: &mut [Open], height: usize, frame: Open)
+    requires { height < length stack.old }
+    ensures { frames_in stack.new (height + 1) ≡ frame_of frame ∷ frames_in stack.old height }
 {
-    codes[height] = code;
-    starts[height] = start;
+    stack[height] = frame;
 }

@@ -3,10 +3,9 @@
 // in specs/Shown.
 #![tactic(auto)]
 
-ghost use Rattle.std.specs.Prelude.{◌≡◌, ◌*◌, [], length, nat_lt};
-ghost use Rattle.model.specs.declared.Checked.TheVariants.{Accepted};
+ghost use Rattle.std.specs.Prelude.{◌≡◌, ◌*◌, [], length, nat_lt, Err};
 ghost use Rattle.model.specs.declared.Written.{Written};
-ghost use Rattle.model.specs.Refusals.{refuse_if};
+ghost use Rattle.model.specs.Refusals.{refuse_if, Accepted};
 ghost use Rattle.model.specs.Calls.{writing};
 ghost use Rattle.model.specs.TimeTables.{given_check};
 ghost use Rattle.model.specs.TextCalls.{read_text_call};
@@ -19,86 +18,66 @@ mod reader; // what the reader does at a token
 mod parsing; // the reader over all words
 
 use model::sizes::{MOST_NODES, PROGRAM_MOST, TEXT_MOST};
-use model::{Checked, Options, Refusal, Written};
-use parsing::Parsed;
-
-fn refused(number: u8, place: usize) -> Written
-    ensures { result ≡ Written.Refused (record { number = number; place = place }) }
-{
-    Written::Refused(Refusal { number, place })
-}
+use model::{Checked, Options, Refusal, Written, refuse};
 
 // So many nodes as bytes of a program: above 200 it is too long, whatever they are.
-fn sized(n: usize) -> Written
+fn sized(n: usize) -> Result<Written, Refusal>
     ensures { result ≡ (writing (refuse_if (nat_lt 800 (4 * n)) 1 0) [] (4 * n) 0 []).answer }
 {
     if MOST_NODES < n {
-        return refused(1, 0);
+        return refuse(1, 0);
     }
-    Written::Done {
+    Ok(Written {
         count: 4 * n,
         finish: 0,
-    }
+    })
 }
 
 // The program of a text, into a list of 800 bytes: refusals 17, 18, and 1 where it is longer.
-pub fn program_of(text: &[u8], program: &mut [u8]) -> Written
+pub fn program_of(text: &[u8], program: &mut [u8]) -> Result<Written, Refusal>
     requires { length program.old ≡ 800 }
     ensures answer { result ≡ program_told text.now }
     ensures program { Given text.now program.new }
 {
     if TEXT_MOST < text.len() {
-        return refused(17, TEXT_MOST);
+        return refuse(17, TEXT_MOST);
     }
-    let checked = scanner::check_words(text);
-    if let Checked::Refused(r) = checked {
-        return Written::Refused(r);
-    }
-    let parsed = parsing::parse(text, program);
-    match parsed {
-        Parsed::Broken(place) => refused(18, place),
-        Parsed::Nodes(n) => sized(n),
+    scanner::check_words(text)?;
+    match parsing::parse(text, program) {
+        Err(place) => refuse(18, place),
+        Ok(n) => sized(n),
     }
 }
 
 // A program, checked and put into a lent list: refusals 19 to 21, 1 to 8, 22, 24 and 25, 14.
-fn give(options: Options, program: &[u8], lent: &mut [u8]) -> Written
+fn give(options: Options, program: &[u8], lent: &mut [u8]) -> Result<Written, Refusal>
     ensures answer { result ≡ (give_call options program.now lent.old).answer }
     ensures lent { lent.new ≡ (give_call options program.now lent.old).lent }
 {
-    let checked = program::check(options, program);
-    if let Checked::Refused(r) = checked {
-        return Written::Refused(r);
-    }
+    program::check(options, program)?;
     if lent.len() < program.len() {
-        return refused(14, 0);
+        return refuse(14, 0);
     }
     let count = word::put_bytes(lent, 0, program);
-    Written::Done { count, finish: 0 }
+    Ok(Written { count, finish: 0 })
 }
 
 // Text to program with options that are not refused: refusals 17, 18, 1 to 8, 22, 24 and 25, 14.
-fn read_accepted(options: Options, text: &[u8], lent: &mut [u8]) -> Written
+fn read_accepted(options: Options, text: &[u8], lent: &mut [u8]) -> Result<Written, Refusal>
     requires { given_check options ≡ Accepted }
     ensures answer { result ≡ (read_text_call options text.now lent.old).answer }
     ensures lent { lent.new ≡ (read_text_call options text.now lent.old).lent }
 {
     let mut program = [0u8; PROGRAM_MOST];
-    let told = program_of(text, &mut program);
-    match told {
-        Written::Refused(r) => Written::Refused(r),
-        Written::Done { count, finish: _ } => give(options, &program[..count], lent),
-    }
+    let told = program_of(text, &mut program)?;
+    give(options, &program[..told.count], lent)
 }
 
 // Text to program: refusals 27 and 19 to 21 first.
-pub fn read_text(options: Options, text: &[u8], lent: &mut [u8]) -> Written
+pub fn read_text(options: Options, text: &[u8], lent: &mut [u8]) -> Result<Written, Refusal>
     ensures answer { result ≡ (read_text_call options text.now lent.old).answer }
     ensures lent { lent.new ≡ (read_text_call options text.now lent.old).lent }
 {
-    let beside = program::tables::check_given(options);
-    if let Checked::Refused(r) = beside {
-        return Written::Refused(r);
-    }
+    program::tables::check_given(options)?;
     read_accepted(options, text, lent)
 }

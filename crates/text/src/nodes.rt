@@ -1,27 +1,21 @@
 // The nodes, four bytes each, as long as they are at most 200: a longer program is refused for its length, and its nodes are only counted.
 // Contracts say what the list keeps of the nodes (`Keeps`, specs/Shown).
-ghost use Rattle.std.specs.Prelude.{◌≡◌, ◌+◌, ◌≤◌, min, List, length};
+ghost use Rattle.std.specs.Prelude.{◌≡◌, List, length};
 ghost use Rattle.model.specs.declared.Node.{Node};
+ghost use Rattle.model.specs.Program.{node};
 ghost use Rattle.model.specs.Reader.{insert_at, with_node_delay};
-ghost use Rattle.text.specs.Shown.{shifted, Keeps};
+ghost use Rattle.text.specs.Shown.{Keeps};
 
 use model::Node;
 
-fn smaller(a: u16, b: u16) -> u16
-    ensures { result ≡ min a b }
+// The node of this kind, without a delay or a number.
+pub fn bare(kind: u8) -> Node
+    ensures { result ≡ node kind 0 0 }
 {
-    if a < b { a } else { b }
-}
-
-// What stands from a to e moves four bytes on.
-fn shift(nodes: &mut [u8], a: usize, e: usize)
-    requires { (a ≤ e) × (e + 4 ≤ length nodes.old) }
-    ensures { nodes.new ≡ shifted a e nodes.old }
-{
-    let mut i = e;
-    while a < i {
-        i -= 1;
-        nodes[i + 4] = nodes[i];
+    Node {
+        kind,
+        delay: 0,
+        n: 0,
     }
 }
 
@@ -33,8 +27,8 @@ pub fn insert_node(nodes: &mut [u8], at: u16, count: u16, node: Node)
     if 200 <= count {
         return;
     }
-    let a = 4 * (smaller(at, count) as usize);
-    shift(nodes, a, 4 * (count as usize));
+    let a = 4 * (at.min(count) as usize);
+    nodes.copy_within(a..4 * (count as usize), a + 4);
     nodes[a] = node.kind;
     nodes[a + 1] = node.delay;
     word::put16(nodes, a + 2, node.n);

@@ -3,31 +3,29 @@ ghost use Rattle.std.specs.Prelude.{◌≡◌, ◌-◌, ◌≤◌, length};
 ghost use Rattle.text.specs.Shown.{lists};
 ghost use Rattle.text.specs.Parsing.{Parses, Going};
 
-// So many nodes, or the place where no continuation fits.
-#[derive(Clone, Copy)]
-pub enum Parsed {
-    Nodes(usize),
-    Broken(usize),
-}
+use crate::frames::NO_FRAME;
+use crate::machine::Machine;
 
-// The nodes stand in the list as long as they are at most 200.
-pub fn parse(text: &[u8], nodes: &mut [u8]) -> Parsed
+// So many nodes, which stand in the list as long as they are at most 200; or the place where no continuation fits.
+pub fn parse(text: &[u8], nodes: &mut [u8]) -> Result<usize, usize>
     requires { (length text.now ≤ 4096) × (length nodes.old ≡ 800) }
     ensures { Parses text.now nodes.new result }
 {
-    let mut codes = [0u8; 4096];
-    let mut starts = [0u16; 4096];
-    let mut m = crate::machine::at_first();
-    let mut w = scanner::next_word(text, 0, 0);
-    while w.found {
-        m = crate::reader::step(&mut codes, &mut starts, nodes, m, w.token);
+    let mut stack = [NO_FRAME; 4096];
+    let mut m = Machine::at_first();
+    let mut at: usize = 0;
+    let mut previous: u8 = 0;
+    // no `for`: where a word begins, and how it is read, hangs on the one before
+    while let Some(w) = scanner::next_word(text, at, previous) {
+        m = crate::reader::step(&mut stack, nodes, m, w.token);
         if crate::reader::is_broken(m) {
-            return Parsed::Broken(w.place);
+            return Err(w.place);
         }
-        w = scanner::next_word(text, w.end, w.token.code);
+        previous = w.token.code;
+        at = w.end;
     }
-    if crate::reader::is_complete(&codes, &starts, m) {
-        return Parsed::Nodes(m.count as usize);
+    if crate::reader::is_complete(&stack, m) {
+        return Ok(m.count as usize);
     }
-    Parsed::Broken(text.len())
+    Err(text.len())
 }

@@ -7,27 +7,30 @@ ghost use Rattle.std.proofs.lemmas.List.Edits.{sets};
 ghost use Rattle.model.specs.Word.{biased, operate, bit, get16, put16, get32, put32};
 ghost use Rattle.model.specs.NetlistFile.{word_sum};
 
+#[tactic(auto, unfolding(model::specs::Word::bit))]
 pub fn bit(b: bool) -> u16
     ensures { result ≡ bit b }
 {
-    if b { 1 } else { 0 }
+    u16::from(b)
 }
 
 // A word's number in two's complement, with 32,768 added.
+#[tactic(auto, unfolding(model::specs::Word::biased))]
 fn biased(w: u16) -> u16
     ensures { result ≡ biased w }
 {
-    std::num::wrapping_add_u16(w, 32768)
+    w.wrapping_add(32768)
 }
 
-// The operators of kinds 3 to 9.
+// The operators of kinds 3 to 9, which are numbers as files have them.
+#[tactic(auto, unfolding(model::specs::Word::operate))]
 pub fn operate(kind: u8, x: u16, y: u16) -> u16
     ensures { result ≡ operate kind x y }
 {
     match kind {
-        3 => 65535 - x,
-        4 => std::num::wrapping_add_u16(x, y),
-        5 => std::num::wrapping_sub_u16(x, y),
+        3 => !x,
+        4 => x.wrapping_add(y),
+        5 => x.wrapping_sub(y),
         6 => x & y,
         7 => x | y,
         8 => bit(x == y),
@@ -35,30 +38,35 @@ pub fn operate(kind: u8, x: u16, y: u16) -> u16
     }
 }
 
+#[tactic(auto, unfolding(model::specs::Word::get16))]
 pub fn get16(s: &[u8], i: usize) -> u16
     requires { i + 1 < length s.now }
     ensures { result ≡ get16 s.now i }
 {
-    (s[i] as u16) + 256 * (s[i + 1] as u16)
+    u16::from_le_bytes([s[i], s[i + 1]])
 }
 
+#[tactic(auto, unfolding(model::specs::Word::put16))]
 pub fn put16(s: &mut [u8], i: usize, v: u16)
     requires { i + 1 < length s.old }
     ensures { s.new ≡ put16 s.old i v }
 {
-    s[i] = (v % 256) as u8;
-    s[i + 1] = (v / 256) as u8;
+    let [low, high] = v.to_le_bytes();
+    s[i] = low;
+    s[i + 1] = high;
 }
 
+#[tactic(auto, unfolding(model::specs::Word::get32))]
 pub fn get32(s: &[u8], i: usize) -> u32
     requires { i + 3 < length s.now }
     ensures { result ≡ get32 s.now i }
 {
     let low = get16(s, i);
     let high = get16(s, i + 2);
-    (low as u32) + 65536 * (high as u32)
+    u32::from(low) + 65536 * u32::from(high)
 }
 
+#[tactic(auto, unfolding(model::specs::Word::put32))]
 pub fn put32(s: &mut [u8], i: usize, v: u32)
     requires { i + 3 < length s.old }
     ensures { s.new ≡ put32 s.old i v }
@@ -73,12 +81,9 @@ pub fn put_bytes(out: &mut [u8], at: usize, bytes: &[u8]) -> usize
     ensures next { result ≡ at + length bytes.now }
     ensures out { out.new ≡ sets out.old at bytes.now }
 {
-    let mut i: usize = 0;
-    while i < bytes.len() {
-        out[at + i] = bytes[i];
-        i += 1;
-    }
-    at + i
+    let end = at + bytes.len();
+    out[at..end].copy_from_slice(bytes);
+    end
 }
 
 // The sum of n words of two bytes, the first of them at byte `from`.
@@ -87,13 +92,8 @@ pub fn sum16(s: &[u8], from: usize, n: usize) -> u16
     ensures { result ≡ word_sum (take (2 * n) (drop from s.now)) % 65536 }
 {
     let mut sum: u16 = 0;
-    let mut i = from;
-    let mut left = n;
-    while 0 < left {
-        let w = get16(s, i);
-        sum = std::num::wrapping_add_u16(sum, w);
-        i += 2;
-        left -= 1;
+    for k in 0..n {
+        sum = sum.wrapping_add(get16(s, from + 2 * k));
     }
     sum
 }

@@ -1,5 +1,5 @@
 -- `count_main` meets its contract. Assumes nothing.
-use mathlib.Core.Path.{ap}
+use mathlib.Core.Path.{ap, ◌∙◌}
 use Prim.Native.Nat.{◌+◌}
 use native.Mathlib.Omega.{arith}
 use Rattle.functional.proofs.count_main.Goals as goal
@@ -8,4 +8,6 @@ pub count_stmt-requires : goal.count_stmt-requires
 count_stmt-requires c = let M = c.requires in (M.laid, M.basic, M.few)
 
 pub returns : goal.returns
-returns c = record { cells = ap (◌+◌ 43) c.count_stmt.ensures; few = omega (arith, c.count_stmt.ensures, c.requires.few) }
+returns c =
+    let told = c.from.ensures ∙ c.count_stmt.ensures in
+    record { cells = ap (◌+◌ 43) told; few = omega (arith, told, c.requires.few) }

@@ -8,18 +8,17 @@ pub put_each-requires : goal.put_each-requires
 put_each-requires c = (row_fits _ _ _ (omega arith), omega arith)
 
 pub loop-k-init : goal.loop-k-init
-loop-k-init c = (omega arith, refl, refl)
+loop-k-init c = (refl, refl)
 
 pub loop-k-preserved : goal.loop-k-preserved
 loop-k-preserved c =
     let inv = c.loop-k.invariant in (
-      omega (arith, c.loop-k-test.true),
-      c.put-in-loop-k-2.auto.cells ∙ c.put-in-loop-k.auto.cells ∙ inv.1,
-      sym (arrays-next _ _ c.loop-k-test.true c.put-in-loop-k.ensures c.put-in-loop-k-2.ensures) ∙ inv.2,
+      c.put-in-loop-k-2.auto.cells ∙ c.put-in-loop-k.auto.cells ∙ inv.0,
+      sym (arrays-next _ _ (omega arith) (rw c.from.ensures at c.put-in-loop-k.ensures) (rw c.from.ensures at c.put-in-loop-k-2.ensures)) ∙ inv.1,
     )
 
 pub returns : goal.returns
 returns c =
     head_done _ c.same.result c.same-2.result c.put.ensures c.put-2.ensures
     c.put-3.ensures c.same.ensures c.same-2.ensures c.put_each.ensures.cells
-    (sym c.loop-k.invariant.2 ∙ arrays-end _ _ c.loop-k-test.false)
+    (sym c.loop-k.invariant.1 ∙ arrays-end _ _ (omega arith))

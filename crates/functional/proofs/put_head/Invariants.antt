@@ -1,6 +1,6 @@
 -- `put_head` meets its contract. The invariant: the arrays' cells that are still to come make the head whole. Assumes nothing.
 use mathlib.Core.Path.{◌≡◌}
-use Prim.Native.Nat.{◌+◌, ◌-◌, ◌*◌, ◌≤◌}
+use Prim.Native.Nat.{◌+◌, ◌-◌, ◌*◌}
 use lib.ListN.{length}
 use Rattle.model.specs.Functional.{idle_arrays}
 use Rattle.compiler.specs.Writes.{write}
@@ -8,7 +8,4 @@ use Rattle.functional.proofs.put_head.Given as goal
 
 abbrev pub invariant-loop-k : goal.invariant-loop-k
 invariant-loop-k l =
-    (l.k ≤ 4) × (length l.cells ≡ length l.initial.cells) × (write (19 + 2 * l.k) (idle_arrays l.k (4 - l.k)) l.cells ≡ write 19 (idle_arrays 0 4) l.initial.cells)
-
-abbrev pub decreases-loop-k : goal.decreases-loop-k
-decreases-loop-k l = 4 - l.k
+    (length l.cells ≡ length l.initial.cells) × (write (19 + 2 * l.k) (idle_arrays l.k (4 - l.k)) l.cells ≡ write 19 (idle_arrays 0 4) l.initial.cells)

@@ -12,34 +12,30 @@ use Rattle.functional.proofs.put_in_place.Goals as goal
 pub loop-k-init : goal.loop-k-init
 loop-k-init c =
     let args = c.args in
-    (omega arith, refl, filled_none 0 (cells_at in_list (drop args.from args.d.now) 0 args.n) args.finish args.d.now 0)
+    (refl, filled_none 0 (cells_at in_list (drop args.from args.d.now) 0 args.n) args.finish args.d.now 0)
 
 pub cell_at-c-requires : goal.cell_at-c-requires
-cell_at-c-requires c =
-    let low = c.loop-k-test.true in (
-      omega (arith, low, c.requires.0),
-      rw (rest-whole c.loop-k.d c.args.from)
-          (omega (arith, low, c.requires.1, c.requires.2, c.loop-k.invariant.1, length-drop c.args.from c.loop-k.d)),
-    )
+cell_at-c-requires c = (
+  omega (arith, c.requires.0),
+  rw (rest-whole c.loop-k.d c.args.from) (omega (arith, c.requires.1, c.requires.2, c.loop-k.invariant.0, length-drop c.args.from c.loop-k.d)),
+)
 
 pub loop-k-preserved : goal.loop-k-preserved
 loop-k-preserved c =
     let args = c.args in
     let net = cells_at in_list (drop args.from args.d.now) 0 args.n in
-    let low = c.loop-k-test.true in
-    let filled = c.loop-k.invariant.2 in
+    let filled = c.loop-k.invariant.1 in
     let read = rw (rest-whole c.loop-k.d args.from) at c.cell_at-c.ensures in (
-      omega (arith, low),
-      c.put_next-sum.auto.d ∙ c.loop-k.invariant.1,
+      c.put_next-sum.auto.d ∙ c.loop-k.invariant.0,
       c.put_next-sum.ensures net args.d.now (cells-length in_list (drop args.from args.d.now) 0 args.n)
-          (next-cell args.d.now args.from args.n args.finish c.requires.1 low filled ∙ sym read) filled,
+          (next-cell args.d.now args.from args.n args.finish c.requires.1 (omega arith) filled ∙ sym read) filled,
     )
 
 pub shape_of-d : goal.shape_of-d
-shape_of-d c = c.loop-k.invariant.1
+shape_of-d c = c.loop-k.invariant.0
 
 pub returns : goal.returns
 unfolding file_of
 returns c =
     let args = c.args in
-    c.loop-k.invariant.2.whole (omega (arith, c.loop-k-test.false, cells-length in_list (drop args.from args.d.now) 0 args.n))
+    c.loop-k.invariant.1.whole (omega (arith, cells-length in_list (drop args.from args.d.now) 0 args.n))

@@ -1,5 +1,5 @@
 -- `last_words` meets its contract: the words before x are in place. Assumes nothing.
-use mathlib.Core.Path.{◌≡◌, refl, ◌∙◌, ap}
+use mathlib.Core.Path.{◌≡◌, ◌∙◌, ap}
 use Prim.Native.Nat.{◌-◌, ◌+◌}
 use native.Mathlib.Omega.{arith}
 use lib.ListN.{length}
@@ -11,25 +11,11 @@ use Rattle.state.proofs.Files.{file-sized, file-stands}
 use Rattle.functional_runs.proofs.Words.{shown-more, shown-all}
 use Rattle.functional_runs.proofs.last_words.Goals as goal
 
-pub header_of-h-requires : goal.header_of-h-requires
-header_of-h-requires c = c.requires.accepted
-
-pub loop-x-init : goal.loop-x-init
-loop-x-init c = (refl, omega arith, λ x h. absurd (omega arith))
-
-pub overflow_add-first : goal.overflow_add-first
-overflow_add-first c =
-    let start = c in
-    let args = start.args in
-    let z = file-sized args.format args.netlist.now args.state.now start.requires in
-    omega (arith, c.first_last-first.ensures, header-count args.netlist.now c.header_of-h.ensures, z.some, z.few)
-
 pub now_at-requires : goal.now_at-requires
 now_at-requires c =
-    let start = c in
-    let args = start.args in
-    let z = file-sized args.format args.netlist.now args.state.now start.requires in
-    file-stands args.format args.netlist.now args.state.now start.requires _
+    let args = c.args in
+    let z = file-sized args.format args.netlist.now args.state.now c.requires in
+    file-stands args.format args.netlist.now args.state.now c.requires _
     (omega (arith, c.first_last-first.ensures, header-count args.netlist.now c.header_of-h.ensures, z.some))
 
 pub loop-x-preserved : goal.loop-x-preserved
@@ -37,10 +23,9 @@ loop-x-preserved c =
     let args = c.args in
     let file = args.netlist.now in
     let loop = c.loop-x in
-    let first = c in
-    let at : first.first_last-first.result + loop.x ≡ length (cells_of file) - 16 + loop.x =
-    omega (arith, first.first_last-first.ensures, header-count file first.header_of-h.ensures, count-cells file) in
-    shown-more (cells_of file) (now_at args.format args.state.now) 16 loop.words loop.x _ loop.invariant c.loop-x-test.true
+    let at : c.first_last-first.result + loop.x ≡ length (cells_of file) - 16 + loop.x =
+    omega (arith, c.first_last-first.ensures, header-count file c.header_of-h.ensures, count-cells file) in
+    shown-more (cells_of file) (now_at args.format args.state.now) 16 loop.word-items loop.x _ loop.invariant c.loop-x-test.true
     (c.now_at.ensures ∙ ap (now_at args.format args.state.now) at)
 
 pub returns : goal.returns
@@ -48,4 +33,4 @@ returns c =
     let args = c.args in
     let loop = c.loop-x in
     let e : loop.x ≡ 16 = omega (arith, c.loop-x-test.false, loop.invariant.1) in
-    shown-all (cells_of args.netlist.now) (now_at args.format args.state.now) 16 loop.words (rw e at loop.invariant)
+    shown-all (cells_of args.netlist.now) (now_at args.format args.state.now) 16 loop.word-items (rw e at loop.invariant)

@@ -1,23 +1,21 @@
 -- What the check for a functional circuit leaves: what the check of a program leaves, and, by refusal 28, a program of document 01's kinds. Its file is
 -- never refused.
 -- Assumes nothing.
-use Rattle.std.specs.Prelude.{◌≡◌, Bool, true, false, ◌||◌, List, [], ◌∷◌, ◌++◌, ℕ, zero, suc, ◌+◌, ◌-◌, ◌<◌, ◌≤◌, length, take, drop}
+use Rattle.std.specs.Prelude.{◌≡◌, true, false, List, [], ◌∷◌, ◌++◌, ℕ, zero, suc, ◌+◌, ◌-◌, ◌<◌, length, take, drop, Ok, Err}
 use Rattle.std.proofs.Math.Path.{refl}
-use Rattle.std.proofs.Common.{sym, ◌∙◌, ap, subst, zero-add, add-zero, arith}
+use Rattle.std.proofs.Common.{sym, subst, zero-add, add-zero, arith}
 use Rattle.model.specs.declared.Node.{Node}
 use Rattle.model.specs.declared.Options.{Options}
-use Rattle.model.specs.declared.Checked.{Checked}
-use Rattle.model.specs.declared.Checked.TheVariants.{Accepted, Refused}
 use Rattle.model.specs.Word.{Bytes}
-use Rattle.model.specs.Refusals.{first, first_fault}
-use Rattle.model.specs.Program.{Expr, const, var, compl, op, elem, Code, Stmt, ok, tick, assign, assign_elem, seq, par, ite, while, repeat, loop, exit, call, Program, node_at, node_count, nodes_from, nodes_at, roots, preorder_e, preorder, preorders, time_in}
+use Rattle.model.specs.Refusals.{first, first_fault, Checked, Accepted}
+use Rattle.model.specs.Program.{Expr, const, var, compl, op, elem, Code, Stmt, ok, tick, assign, assign_elem, seq, par, ite, while, repeat, loop, exit, call, Program, node_at, node_count, nodes_from, preorder_e, preorder, preorders, time_in}
 use Rattle.model.specs.Procedures.{inline, inlined, meaning}
 use Rattle.model.specs.ProgramChecks.{program_checks, check_of, program_with, added, added_fault, check_functional}
 use Rattle.model.specs.TimeTables.{given_check}
 use Rattle.model.specs.Calls.{check_call}
 use Rattle.model.specs.NetlistFile.{pulse_wrong}
-use Rattle.laws.specs.Refusals.Laws.{not-refused, all-accept, no-fault, fault-unless}
-use Rattle.laws.specs.Program.Fit.{Formed, Low, Timed, BasicExpr, Basic}
+use Rattle.laws.specs.Refusals.Laws.{not-refused, no-fault, fault-unless}
+use Rattle.laws.specs.Program.Fit.{Formed, Low, BasicExpr, Basic}
 use Rattle.laws.specs.Program.Passed.{accepted, program-nodes}
 use Rattle.laws.specs.Program.Admitted.{Admitted, program-admitted, plain-main, at-main}
 use Rattle.laws.specs.Program.Size.{program-low}
@@ -26,14 +24,14 @@ use Rattle.laws.specs.Program.Size.{program-low}
 
 -- a check among others
 between : (n : ℕ) (cs : List Checked) (c : Checked) → first (take n cs ++ (c ∷ drop n cs)) ≡ Accepted → (first cs ≡ Accepted) × (c ≡ Accepted)
-between zero [] Accepted e = (refl, refl)
-between zero [] (Refused r) e = not-refused e
-between zero (x ∷ cs) Accepted e = (e, refl)
-between zero (x ∷ cs) (Refused r) e = not-refused e
-between (suc n) [] Accepted e = (refl, refl)
-between (suc n) [] (Refused r) e = not-refused e
-between (suc n) (Accepted ∷ cs) c e = between n cs c e
-between (suc n) (Refused r ∷ cs) c e = not-refused e
+between zero [] (Ok _) e = (refl, refl)
+between zero [] (Err r) e = not-refused e
+between zero (x ∷ cs) (Ok _) e = (e, refl)
+between zero (x ∷ cs) (Err r) e = not-refused e
+between (suc n) [] (Ok _) e = (refl, refl)
+between (suc n) [] (Err r) e = not-refused e
+between (suc n) (Ok _ ∷ cs) c e = between n cs c e
+between (suc n) (Err r ∷ cs) c e = not-refused e
 
 -- "a table alone": these times, no procedures, and pulses of one instant
 abbrev pub table_alone : Options → Options

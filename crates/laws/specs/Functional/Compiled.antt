@@ -1,22 +1,21 @@
 -- The functional netlist of a program keeps every rule of a netlist, also that of its last sixteen cells: its file is never refused.
 -- Assumes nothing.
-use Rattle.std.specs.Prelude.{◌≡◌, Bool, true, false, ◌&&◌, not, List, [], ◌∷◌, ◌++◌, ◌⊎◌, eqb, leb}
+use Rattle.model.specs.Refusals.{Accepted}
+use Rattle.std.specs.Prelude.{◌≡◌, Bool, true, false, ◌&&◌, List, ◌∷◌, ◌++◌, leb}
 use Rattle.std.proofs.Math.Path.{refl}
-use Rattle.std.proofs.Common.{sym, ◌∙◌, ap, inl, inr, zero-add, length-append}
-use Rattle.std.proofs.Math.Bool.{and-false}
-use Prim.Native.Nat.{ℕ, zero, suc, ◌+◌, ◌-◌, ◌*◌, ◌<◌, ◌≤◌}
+use Rattle.std.proofs.Common.{ap, inl, inr, zero-add}
+use Prim.Native.Nat.{ℕ, zero, suc, ◌+◌, ◌-◌, ◌<◌, ◌≤◌}
 use native.Mathlib.Omega.{arith}
 use Rattle.std.proofs.Math.ListN.{length}
 use borrow.Author.Tests.{eq-eqb, ne_eqb, le-leb, lt-leb, lt-ltb, le-ltb}
 use Rattle.model.specs.declared.Cell.{Cell}
-use Rattle.model.specs.declared.Checked.TheVariants.{Accepted}
 use Rattle.model.specs.Word.{pick, bit}
 use Rattle.model.specs.Program.{Stmt, ok, tick, assign, assign_elem, seq, par, ite, while, repeat, loop, exit, writes, call}
 use Rattle.model.specs.Circuit.{cell, cell_at, control, cell_table, shape, memories, past_memories}
 use Rattle.model.specs.NetlistFile.{cell_limit, of_array, stands, placed, array_placed, cell_fault, net_check, count_wrong, blocks_for, carries, last_fault, last_check}
-use Rattle.model.specs.Numbering.{Wires, expr_count, if_delay_count, if_delay_cells, head_cells}
+use Rattle.model.specs.Numbering.{Wires}
 use Rattle.model.specs.Functional.{rows, sixteen, rows_of, each, rank, many, placed as moved, joins_at, branches, choices, count, finish_wire, outs, walk, arrays_at, walk_place, last_at, last_wires, start_wires, idle_arrays, netlist_of, finish_of, if_true, if_then, if_else, if_end, while_true, while_body, while_load, repeat_body, repeat_delay, repeat_true, repeat_load}
-use Rattle.laws.specs.Refusals.Laws.{by_bool, by_le, faultless}
+use Rattle.laws.specs.Refusals.Laws.{by_le, faultless}
 use Rattle.laws.specs.Program.Fit.{Formed, Low, Basic}
 use Rattle.laws.specs.Circuit.Ordered.{word, In, kinds}
 use Rattle.laws.specs.NetlistFile.Uses.{looks-keeps}

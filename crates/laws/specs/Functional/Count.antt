@@ -1,20 +1,20 @@
 -- A functional netlist of n nodes has at most 43 + 35 n cells: 7,043 for 200 nodes. Assumes nothing.
+use Rattle.model.specs.Refusals.{Accepted}
 use Rattle.std.specs.Prelude.{◌≡◌, refl, Bool, true, false, List, [], ◌∷◌, ◌++◌, ℕ, zero, suc, ◌+◌, ◌*◌, ◌≤◌, length}
 use Rattle.std.proofs.Common.{ap, arith, length-append}
 use Rattle.model.specs.Word.{pick}
 use Rattle.model.specs.declared.Cell.{Cell}
-use Rattle.model.specs.declared.Checked.TheVariants.{Accepted}
 use Rattle.model.specs.declared.Options.{Options}
-use Rattle.model.specs.Program.{Expr, const, var, compl, op, elem, Code, Stmt, ok, tick, assign, assign_elem, seq, par, ite, while, repeat, loop, exit, call, roots, writes}
+use Rattle.model.specs.Program.{Expr, const, var, compl, op, elem, Code, Stmt, ok, tick, assign, assign_elem, seq, par, ite, while, repeat, loop, exit, call, writes}
 use Rattle.model.specs.Procedures.{inline, inlined, meaning}
 use Rattle.model.specs.ProgramChecks.{program_with}
-use Rattle.model.specs.Numbering.{Wires, expr_count, if_delay_count, head_cells}
+use Rattle.model.specs.Numbering.{Wires, expr_count, if_delay_count}
 use Rattle.model.specs.Calls.{check_call}
 use Rattle.laws.specs.Numbering.Count.{e_nodes, nodes, root_nodes}
 use Rattle.laws.specs.Numbering.Lengths.{e-len, own-len}
 use Rattle.laws.specs.Program.Fit.{Basic}
 use Rattle.laws.specs.Program.Size.{few-nodes}
-use Rattle.model.specs.Functional.{rows, rows_of, each, among, rank, many, placed, joins_at, branches, choices, count, finish_wire, outs, walk, idle_arrays, start_wires, walk_place, last_wires, netlist_of, if_delay, if_true, if_then, if_else, if_end, while_true, while_body, while_load, repeat_body, repeat_delay, repeat_true, repeat_load}
+use Rattle.model.specs.Functional.{rows, rows_of, each, among, many, placed, branches, choices, count, finish_wire, outs, walk, idle_arrays, netlist_of, if_true, if_then, if_else, while_true, while_body, repeat_body}
 
 -- Lengths --------------------------------------------------------------------------------------------------------------------------------------
 

@@ -4,7 +4,7 @@ use Rattle.std.specs.Prelude.{◌≡◌, Bool, false, [], ◌∷◌, ◌++◌, e
 use Rattle.std.proofs.Math.Path.{refl}
 use Rattle.std.proofs.Math.Bool.{true}
 use Rattle.std.proofs.Common.{inl}
-use Prim.Native.Nat.{ℕ, zero, suc, ◌+◌, ◌<◌, ◌≤◌}
+use Prim.Native.Nat.{ℕ, ◌+◌, ◌<◌, ◌≤◌}
 use native.Mathlib.Omega.{arith}
 use Rattle.model.specs.declared.Cell.{Cell}
 use Rattle.model.specs.Word.{pick}
@@ -12,7 +12,7 @@ use Rattle.model.specs.Program.{Stmt, ok, tick, assign, assign_elem, seq, par, i
 use Rattle.model.specs.Circuit.{cell, control, cell_table, shape}
 use Rattle.model.specs.NetlistFile.{of_array, stands}
 use Rattle.model.specs.Numbering.{Wires, expr_count, expr_wire, expr_cells, if_delay_count, if_delay_cells}
-use Rattle.model.specs.Functional.{each, rank, many, placed, joins_at, branches, choices, count, finish_wire, outs, walk, if_delay, if_true, if_then, if_else, if_end, while_true, while_body, while_load, repeat_body, repeat_delay, repeat_true, repeat_load}
+use Rattle.model.specs.Functional.{each, rank, many, placed, joins_at, branches, choices, count, finish_wire, outs, walk, if_true, if_then, if_else, if_end, while_true, while_body, while_load, repeat_body, repeat_delay, repeat_true, repeat_load}
 use Rattle.laws.specs.Program.Fit.{Formed, Low, Basic}
 use Rattle.laws.specs.Circuit.Ordered.{word, In}
 use Rattle.laws.specs.Numbering.Cells.{All, split, join}

@@ -1,7 +1,8 @@
 -- A netlist held as cells and one held as six bytes each are checked, written, renumbered and read alike.
 -- model/CellPromises states it; `same-cells` is the proof.
 -- Assumes nothing.
-use Rattle.std.specs.Prelude.{Bool, true, false, ◌≡◌, ltb, length, take, drop}
+use Rattle.model.specs.Refusals.{Checked}
+use Rattle.std.specs.Prelude.{Bool, true, false, ◌≡◌, ltb, length, take, drop, Ok, Err}
 use mathlib.Core.List.{List, [], ◌∷◌, ◌++◌, append-nil}
 use Rattle.std.proofs.Math.Path.{refl, ap₂}
 use Rattle.std.proofs.Common.{sym, ◌∙◌, ap, zero-add, arith, lt-ltb, le-ltb, length-take, length-drop, get_or-take, get_or-drop}
@@ -10,8 +11,6 @@ use Rattle.std.proofs.Math.ListN.{get_or}
 use Rattle.std.proofs.lemmas.List.{length-map}
 use Rattle.std.proofs.lemmas.List.Edits.{sets, sets-eq}
 use Rattle.model.specs.declared.Cell.{Cell}
-use Rattle.model.specs.declared.Checked.{Checked}
-use Rattle.model.specs.declared.Checked.TheVariants.{Accepted}
 use Rattle.model.specs.Word.{pick, bytes16, get16, Bytes}
 use Rattle.model.specs.Circuit.{no_cell, cell_row, names}
 use Rattle.model.specs.NetlistFile.{cell_bytes, cell_from, cells_at, cells_of, in_list, in_file, count_of, finish_of, net_check}
@@ -99,9 +98,9 @@ put_in : (c : Checked) (cs lent : List Cell) (n f : ℕ)
     → ((writing c (cell_bytes cs) n f (cell_bytes lent)).answer ≡ (placing c 0 cs n f lent).answer)
     × ((writing c (cell_bytes cs) n f (cell_bytes lent)).lent ≡ cell_bytes (placing c 0 cs n f lent).lent)
 unfolding writing placing
-put_in Accepted cs lent n f =
+put_in (Ok _) cs lent n f =
     (refl, rw (zero-add (length cs), bytes-append cs (drop (length cs) lent), bytes-length cs) (ap (λ (s : List ℕ). cell_bytes cs ++ s) (drop-bytes (length cs) lent)))
-put_in (Checked.Refused r) cs lent n f = (refl, refl)
+put_in (Err r) cs lent n f = (refl, refl)
 
 pub read-bytes : (file : List ℕ) (lent : List Cell) → Bytes file
     → ((read_call file (cell_bytes lent)).answer ≡ (read_cells_call file 0 lent).answer) × ((read_call file (cell_bytes lent)).lent ≡ cell_bytes (read_cells_call file 0 lent).lent)

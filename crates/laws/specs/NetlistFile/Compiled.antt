@@ -1,9 +1,9 @@
 -- The file that compiling an accepted program writes is accepted.
 -- Assumes nothing.
+use Rattle.model.specs.Refusals.{Accepted}
 use Rattle.std.specs.Prelude.{◌≡◌, List, ℕ, ◌≤◌}
 use Rattle.std.proofs.Common.{arith}
 use Rattle.model.specs.declared.Options.{Options}
-use Rattle.model.specs.declared.Checked.TheVariants.{Accepted}
 use Rattle.model.specs.Program.{program_of}
 use Rattle.model.specs.ProgramChecks.{program_with}
 use Rattle.model.specs.Numbering.{netlist, finish}

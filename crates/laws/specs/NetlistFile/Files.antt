@@ -1,5 +1,6 @@
 -- Netlist files: a file that was written is accepted and read as it was written, and an accepted file is what is written of its netlist.
 -- Assumes nothing.
+use Rattle.model.specs.Refusals.{Accepted}
 use Rattle.std.specs.Prelude.{◌≡◌, false, List, eqb, ltb, get_or, drop}
 use Rattle.std.proofs.Math.Path.{refl, sym, ap}
 use Rattle.std.proofs.Common.{◌∙◌, zero-add, arith, length-drop}
@@ -9,7 +10,6 @@ use Rattle.std.proofs.Math.ListN.{length, take, length-take, get_or-eq_default}
 use Rattle.std.proofs.Math.Seq.{get_or-take, get_or-drop}
 use borrow.Author.Tests.{ne_eqb, le-ltb, ltb-false}
 use Rattle.model.specs.declared.Cell.{Cell}
-use Rattle.model.specs.declared.Checked.TheVariants.{Accepted}
 use Rattle.model.specs.Circuit.{cell_at, no_cell}
 use Rattle.model.specs.NetlistFile.{cell_limit, file_limit, cell_from, cells_at, in_file, block, block_at, blocks_for, file_of, rest_bytes, count_of, finish_of, cells_of, file_length_wrong, sum_fault, count_wrong, header_fault, net_check, file_check, first_number, pulse_of, pulse_wrong}
 use Rattle.model.specs.FilePromises.{FewestBlocks}

@@ -1,14 +1,14 @@
 -- What refusals 9 to 12 leave: a netlist whose cells keep every rule, and a file whose blocks are right.
 -- Cells that keep the rules look only at lower cells and at the past.
 -- Assumes nothing.
-use Rattle.std.specs.Prelude.{◌≡◌, Bool, not, ◌&&◌, ◌||◌, List, ℕ, zero, suc, ◌+◌, ◌-◌, ◌*◌, ◌/◌, ◌%◌, ◌<◌, ◌≤◌, leb, length}
+use Rattle.model.specs.Refusals.{Accepted}
+use Rattle.std.specs.Prelude.{◌≡◌, Bool, not, ◌&&◌, List, ℕ, zero, suc, ◌+◌, ◌-◌, ◌*◌, ◌/◌, ◌%◌, ◌<◌, ◌≤◌, leb, length}
 use Rattle.std.proofs.Math.Path.{refl}
 use Rattle.std.proofs.Common.{ap, arith}
 use Rattle.std.proofs.Math.Bool.{true, false}
 use Rattle.std.proofs.Math.Dec.{eqb, ltb}
 use borrow.Author.Tests.{ltb-true, ltb-false, leb-true, eqb-true, eqb-false, le-leb, lt-ltb, le-ltb, eq-eqb, ne_eqb}
 use Rattle.model.specs.declared.Cell.{Cell}
-use Rattle.model.specs.declared.Checked.TheVariants.{Accepted}
 use Rattle.model.specs.Word.{pick}
 use Rattle.model.specs.Circuit.{cell_at, control, memories, past_memories, array_at}
 use Rattle.model.specs.NetlistFile.{cell_limit, word_sum, block_at, blocks_for, count_of, finish_of, cells_at, in_file, cells_of, file_length_wrong, sum_fault, count_wrong, header_right, pulse_of, pulse_wrong, header_fault, of_array, keeps, placed, array_placed, cell_fault, net_checks, net_check, file_checks, file_check}

@@ -1,6 +1,6 @@
 -- Reading and writing netlists as calls: what was written is read back, and what was read is written as the file that it was read from.
 -- Assumes nothing.
-use Rattle.std.specs.Prelude.{◌≡◌, refl, ◌||◌, ℕ, ◌*◌, ◌/◌, ◌%◌, ◌≤◌, drop}
+use Rattle.std.specs.Prelude.{◌≡◌, refl, ◌||◌, ℕ, ◌*◌, ◌/◌, ◌%◌, ◌≤◌, drop, Result, Ok, Err}
 use Rattle.std.proofs.Common.{sym, ◌∙◌, zero-add, arith, drop_of_length-le}
 use Rattle.std.proofs.Math.Path.{ap, ap₂}
 use Rattle.std.proofs.Math.Bool.{false}
@@ -9,12 +9,10 @@ use Rattle.std.proofs.Math.Dec.{ltb}
 use Rattle.std.proofs.Math.ListN.{length, take}
 use Rattle.std.proofs.Math.Seq.{take-append_seam}
 use borrow.Author.Tests.{ltb-false, le-ltb}
+use Rattle.model.specs.declared.Refusal.{Refusal}
 use Rattle.model.specs.declared.Cell.{Cell}
-use Rattle.model.specs.declared.Checked.{Checked}
-use Rattle.model.specs.declared.Checked.TheVariants.{Accepted}
 use Rattle.model.specs.declared.Written.{Written}
-use Rattle.model.specs.declared.Written.TheVariants.{Done}
-use Rattle.model.specs.Refusals.{first}
+use Rattle.model.specs.Refusals.{first, Checked, Accepted, Done}
 use Rattle.model.specs.NetlistFile.{cell_bytes, cell_from, in_list, file_of, count_of, finish_of, cells_of, count_wrong, blocks_for, net_check, file_check, pulse_of, pulse_wrong}
 use Rattle.model.specs.Calls.{Returned, overwrite, writing, cells_in, write_checks, write_call, read_checks, read_call, written_verdict}
 use Rattle.model.specs.Word.{Bytes}
@@ -26,23 +24,23 @@ use Rattle.laws.specs.NetlistFile.Files.{count-written, pulse-written, finish-wr
 
 -- A call that writes -------------------------------------------------------------------------------------------------------------------
 
-is-done : Written → ℕ
-is-done (Done n f) = 1
-is-done (Written.Refused r) = 0
+is-done : Result Written Refusal → ℕ
+is-done (Ok w) = 1
+is-done (Err r) = 0
 
-done-count : Written → ℕ
-done-count (Done n f) = n
-done-count (Written.Refused r) = 0
+done-count : Result Written Refusal → ℕ
+done-count (Ok w) = w.count
+done-count (Err r) = 0
 
-done-finish : Written → ℕ
-done-finish (Done n f) = f
-done-finish (Written.Refused r) = 0
+done-finish : Result Written Refusal → ℕ
+done-finish (Ok w) = w.finish
+done-finish (Err r) = 0
 
 -- what an answer says of refusals is what the checks found
 pub writing-verdict : (c : Checked) (result : List ℕ) (n f : ℕ) (lent : List ℕ) → written_verdict (writing c result n f lent).answer ≡ c
 unfolding writing written_verdict
-writing-verdict Accepted result n f lent = refl
-writing-verdict (Checked.Refused r) result n f lent = refl
+writing-verdict (Ok _) result n f lent = refl
+writing-verdict (Err r) result n f lent = refl
 
 -- a call that is done was accepted, and did what it says
 pub record Wrote (c : Checked) (result : List ℕ) (n f : ℕ) (lent : List ℕ) (k g : ℕ) : Type 0 where
@@ -54,9 +52,9 @@ pub record Wrote (c : Checked) (result : List ℕ) (n f : ℕ) (lent : List ℕ)
 pub wrote : (c : Checked) (result : List ℕ) (n f : ℕ) (lent : List ℕ) (k g : ℕ) → (writing c result n f lent).answer ≡ Done k g
     → Wrote c result n f lent k g
 unfolding writing is-done done-count done-finish
-wrote Accepted result n f lent k g e =
+wrote (Ok _) result n f lent k g e =
     record { accepted = refl; count = sym (ap done-count e); finish = sym (ap done-finish e); told = refl }
-wrote (Checked.Refused r) result n f lent k g e = absurd (omega (arith, ap is-done e))
+wrote (Err r) result n f lent k g e = absurd (omega (arith, ap is-done e))
 
 -- Cells in a list ----------------------------------------------------------------------------------------------------------------------
 
@@ -103,7 +101,7 @@ module _ (w : ℕ) (cells for_file for_cells : List ℕ) (f n g : ℕ) (bytes : 
   file-is : take n (write_call w cells f for_file).lent ≡ file_of w net f
   unfolding write_call
   file-is =
-      ap₂ (λ (k : ℕ) (r : Returned Written). take k r.lent) written.count written.told ∙ take-append_seam (file_of w net f) (drop (length (file_of w net f)) for_file)
+      ap₂ (λ (k : ℕ) (r : Returned (Result Written Refusal)). take k r.lent) written.count written.told ∙ take-append_seam (file_of w net f) (drop (length (file_of w net f)) for_file)
 
   pub read_back : length cells ≤ length for_cells →
       let file = take n (write_call w cells f for_file).lent in
@@ -133,7 +131,7 @@ module _ (file for_cells for_file : List ℕ) (n f : ℕ) (bytes : Bytes file) (
   unfolding read_call
   cells-are-read =
       let e : 6 * n ≡ length (cell_bytes cs) = omega (arith, bytes-length cs, count-cells file, r.count) in
-      ap₂ (λ (k : ℕ) (t : Returned Written). take k t.lent) e r.told ∙ take-append_seam (cell_bytes cs) (drop (length (cell_bytes cs)) for_cells)
+      ap₂ (λ (k : ℕ) (t : Returned (Result Written Refusal)). take k t.lent) e r.told ∙ take-append_seam (cell_bytes cs) (drop (length (cell_bytes cs)) for_cells)
 
   pub write-back : length file ≤ length for_file
       → write_call (pulse_of file) (take (6 * n) (read_call file for_cells).lent) f for_file ≡ record { answer = Done (length file) f; lent = overwrite file for_file }

@@ -1,4 +1,5 @@
 -- The netlist of an accepted program keeps every rule of a netlist: its file is never refused.
+use Rattle.model.specs.Refusals.{Accepted}
 use Rattle.std.specs.Prelude.{◌≡◌, Bool, false, get_or}
 use Rattle.std.proofs.Math.Path.{refl, subst}
 use borrow.Author.Tests.{eq-eqb, ne_eqb, eqb-true, le-leb, lt-ltb, le-ltb}
@@ -26,7 +27,6 @@ use Rattle.laws.specs.Circuit.Ordered.{word, In, kinds}
 use Rattle.laws.specs.NetlistFile.Uses.{looks-keeps}
 use Rattle.laws.specs.Numbering.Valid.{Ok, HasKind, Every, ors-ok, p-ok, memory-wire, array-wire, Brings, Arrays}
 use Rattle.model.specs.Word.{pick}
-use Rattle.model.specs.declared.Checked.TheVariants.{Accepted}
 use Rattle.model.specs.NetlistFile.{cell_limit, of_array, stands, placed, cell_fault, net_check, count_wrong, blocks_for}
 use Rattle.laws.specs.Refusals.Laws.{by_le, faultless}
 use Rattle.laws.specs.Program.Trees.{by-pick}

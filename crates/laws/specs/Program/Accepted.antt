@@ -1,6 +1,7 @@
 -- Acceptance: each root of an accepted program has variables below 16, arrays below 4, operators of kinds 4 to 9, delays that are large enough, and
 -- parallel sides that are apart and reach no procedure in common. What is said of delays holds under any operator times.
 -- Assumes nothing.
+use Rattle.model.specs.Refusals.{Accepted}
 use Rattle.std.specs.Prelude.{◌≡◌, Bool, true, ◌&&◌, ◌||◌, List, [], ◌∷◌, ◌++◌, map, ℕ, zero, suc, ◌-◌, ◌≤◌, ◌<◌, length, get_or, ltb, eqb}
 use Rattle.std.proofs.Math.Path.{refl, subst}
 use Rattle.std.proofs.Common.{◌∙◌, ap, le_of_suc-le-suc, ltb-true, eqb-true}
@@ -9,7 +10,6 @@ use native.Mathlib.Omega.{arith}
 use Rattle.std.proofs.Math.Decide.{ℕ_discrete}
 use Rattle.std.proofs.lemmas.Bool.{eqb-false}
 use Rattle.model.specs.declared.Node.{Node}
-use Rattle.model.specs.declared.Checked.TheVariants.{Accepted}
 use Rattle.model.specs.declared.Options.{Options}
 use Rattle.model.specs.Word.{pick}
 use Rattle.model.specs.Program.{Expr, Code, Stmt, ok, tick, assign, assign_elem, seq, par, ite, while, repeat, loop, exit, Tree, expr, stmt, none, as_expr, as_stmt, expr_of, stmt_of, tree_of, trees_at, stmt_at, node_at, row_of, Program, program_of, roots, time_in, least, array_var, writes, touches, call}

@@ -1,10 +1,10 @@
 -- What acceptance leaves of a program with procedures, as the theorems need it: of each body and of the main program, with calls and without.
 -- Assumes nothing.
+use Rattle.model.specs.Refusals.{Accepted}
 use Rattle.std.specs.Prelude.{◌≡◌, refl, Bool, true, false, List, [], ◌∷◌, ◌++◌, ℕ, zero, suc, ◌+◌, ◌≤◌, ◌<◌, length, get_or}
 use Rattle.std.proofs.Math.Path.{sym, subst}
 use Rattle.std.proofs.Common.{◌∙◌, ap, arith, length-append}
 use Rattle.std.proofs.Math.ListN.{get_or-eq_default}
-use Rattle.model.specs.declared.Checked.TheVariants.{Accepted}
 use Rattle.model.specs.declared.Options.{Options}
 use Rattle.model.specs.Program.{Expr, Code, Stmt, Statement, ok, tick, assign, assign_elem, seq, par, ite, while, repeat, loop, exit, call, Program, program_of, roots}
 use Rattle.model.specs.Procedures.{body_at, inline, inlined, meaning, reaches, reached}

@@ -2,10 +2,8 @@
 -- it. Assumes nothing.
 use Rattle.std.specs.Prelude.{◌≡◌, refl, Bool, true, false, not, ◌||◌, List, [], ◌∷◌, ℕ, zero, suc, ◌+◌, ◌<◌, leb, length, get_or}
 use Rattle.std.proofs.Common.{ap₂, add-zero, zero-add, le_of_suc-le-suc, arith, leb-false}
-use Rattle.model.specs.declared.Checked.{Checked}
-use Rattle.model.specs.declared.Checked.TheVariants.{Accepted}
 use Rattle.model.specs.declared.Options.{Options}
-use Rattle.model.specs.Refusals.{refuse_if, first}
+use Rattle.model.specs.Refusals.{refuse_if, first, Checked, Accepted}
 use Rattle.model.specs.Program.{Code, ok, tick, assign, assign_elem, seq, par, ite, while, repeat, loop, exit, call, Program, roots, preorder_e, preorder}
 use Rattle.model.specs.ProgramChecks.{searched, loose_in, late_in, in_roots, program_with}
 use Rattle.model.specs.Calls.{check_call}

@@ -1,17 +1,15 @@
 -- Parts that are joined: what their checks leave of them, and that they make an accepted program, which is their sequence.
 -- Assumes nothing.
-use Rattle.std.specs.Prelude.{◌≡◌, Bool, not, ◌&&◌, length}
+use Rattle.std.specs.Prelude.{◌≡◌, Bool, not, ◌&&◌, length, Ok, Err}
 use Rattle.std.proofs.Math.Path.{refl, sym, ap, ap₂}
 use Rattle.std.proofs.Common.{subst, ◌∙◌, le_of_suc-le-suc}
 use mathlib.Core.List.{List, [], ◌∷◌, ◌++◌}
-use Prim.Native.Nat.{ℕ, zero, suc, ◌+◌, ◌-◌, ◌*◌, ◌<◌, ◌≤◌}
+use Prim.Native.Nat.{ℕ, zero, suc, ◌*◌, ◌<◌, ◌≤◌}
 use native.Mathlib.Omega.{arith}
 use Rattle.std.proofs.Math.Dec.{leb}
 use borrow.Author.Tests.{ltb-false, le-ltb, le-leb, leb-true, eqb-true, eq-eqb}
 use Rattle.model.specs.declared.Options.{Options}
-use Rattle.model.specs.declared.Checked.{Checked}
-use Rattle.model.specs.declared.Checked.TheVariants.{Accepted, Refused}
-use Rattle.model.specs.Refusals.{refuse_if, first, fault_if}
+use Rattle.model.specs.Refusals.{refuse_if, first, fault_if, Checked, Accepted}
 use Rattle.model.specs.Program.{seq, Program, node_count, stmt_at, program_of, time_in}
 use Rattle.model.specs.ProgramChecks.{program_with, check_of}
 use Rattle.model.specs.NetlistFile.{file_check}
@@ -29,8 +27,8 @@ use Rattle.laws.specs.Program.Sequence.{one_root, one-statement, seq-length, seq
 
 pub split-accepts : (cs ds : List Checked) → first (cs ++ ds) ≡ Accepted → (first cs ≡ Accepted) × (first ds ≡ Accepted)
 split-accepts [] ds e = (refl, e)
-split-accepts (Accepted ∷ cs) ds e = split-accepts cs ds e
-split-accepts (Refused r ∷ cs) ds e = not-refused e
+split-accepts (Ok _ ∷ cs) ds e = split-accepts cs ds e
+split-accepts (Err r ∷ cs) ds e = not-refused e
 
 -- Each part ------------------------------------------------------------------------------------------------------------------------------
 

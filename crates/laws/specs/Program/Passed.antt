@@ -8,9 +8,8 @@ use mathlib.Core.List.{List, [], ◌∷◌, ◌++◌, map}
 use Rattle.std.proofs.Math.ListN.{get_or}
 use Rattle.std.proofs.Math.Dec.{ltb}
 use borrow.Author.Tests.{lt-ltb, ltb-false, eqb-false}
-use Rattle.model.specs.declared.Checked.TheVariants.{Accepted}
 use Rattle.model.specs.declared.Options.{Options}
-use Rattle.model.specs.Refusals.{refuse, first}
+use Rattle.model.specs.Refusals.{refuse, first, Accepted}
 use Rattle.model.specs.Program.{Tree, expr, stmt, Code, node_at, node_count, nodes_at, row_of, none, as_stmt, trees_at, stmt_at, program_of, roots, time_in, least, preorder, preorders}
 use Rattle.model.specs.Procedures.{inline, inlined, reached}
 use Rattle.model.specs.ProgramChecks.{conflicts, shares, program_length_wrong, too_many_procedures, node_fault, children, reading, root_sorts, loose_exit, late_call, delay_fault, shared_fault, conflict_fault, program_checks, check_of}

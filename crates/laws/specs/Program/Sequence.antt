@@ -9,10 +9,8 @@ use Rattle.std.proofs.Math.Decide.{dec_lt}
 use Rattle.std.proofs.Math.ListN.{length, get_or, get_or-append}
 use Rattle.model.specs.declared.Node.{Node}
 use Rattle.model.specs.declared.Options.{Options}
-use Rattle.model.specs.declared.Checked.{Checked}
-use Rattle.model.specs.declared.Checked.TheVariants.{Accepted}
 use Rattle.model.specs.Word.{pick, get16}
-use Rattle.model.specs.Refusals.{refuse, refuse_if, first, fault_if}
+use Rattle.model.specs.Refusals.{refuse, refuse_if, first, fault_if, Checked, Accepted}
 use Rattle.model.specs.Program.{Code, ok, tick, assign, assign_elem, seq, par, ite, while, repeat, loop, exit, call, Tree, node, node_at, node_count, nodes_from, nodes_at, row_of, none, as_expr, as_stmt, stmt_of, tree_of, grow, forest, trees_at, stmt_at, Program, program_of, roots, time_in, least, preorder_e, preorder}
 use Rattle.model.specs.Procedures.{inline, inlined, reached}
 use Rattle.model.specs.ProgramChecks.{program_length_wrong, too_many_procedures, unused_set, absent, node_fault, children, reading, searched, loose_in, late_in, in_roots, loose_exit, late_call, delay_fault, shared_fault, shared, shares, conflict_fault, conflicts, program_checks, check_of}

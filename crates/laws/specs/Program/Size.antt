@@ -1,9 +1,9 @@
 -- Size: an accepted program is one statement with as many nodes as the program has, and its delays are bytes.
 -- Assumes nothing.
+use Rattle.model.specs.Refusals.{Accepted}
 use Rattle.std.specs.Prelude.{◌≡◌, refl, List, [], ◌∷◌, ℕ, suc, ◌+◌, ◌-◌, ◌*◌, ◌≤◌, ◌<◌, ltb, eqb, length, get_or}
 use Rattle.std.proofs.Common.{sym, ◌∙◌, ap, ap₂, subst, suc-le-suc, add-zero, zero-add, arith, length-append}
 use Rattle.model.specs.declared.Node.{Node}
-use Rattle.model.specs.declared.Checked.TheVariants.{Accepted}
 use Rattle.model.specs.declared.Options.{Options}
 use Rattle.model.specs.Program.{Expr, const, var, compl, op, elem, Code, ok, tick, assign, assign_elem, seq, par, ite, while, repeat, loop, exit, call, Tree, as_expr, as_stmt, stmt_of, tree_of, stmt_at, node_count, node_at, roots, time_in, preorder_e, preorder, preorders}
 use Rattle.model.specs.ProgramChecks.{program_with}

@@ -1,9 +1,9 @@
 -- Nodes that are read to the end without a fault make trees of the sorts that were wanted, and these nodes are the trees' nodes.
 -- Assumes nothing.
+use Rattle.model.specs.Refusals.{Accepted}
 use Rattle.std.specs.Prelude.{◌≡◌, refl, List, [], ◌∷◌, ◌++◌, ℕ, zero, suc, ◌+◌, ◌≤◌, ◌<◌, eqb}
 use Rattle.std.proofs.Common.{◌∙◌, ap, arith, eqb-true}
 use Rattle.model.specs.declared.Node.{Node}
-use Rattle.model.specs.declared.Checked.TheVariants.{Accepted}
 use Rattle.model.specs.Program.{node_at, nodes_from, row_of, forest}
 use Rattle.model.specs.ProgramChecks.{node_fault, children, reading}
 use Rattle.laws.specs.Refusals.Laws.{not-refused, pick_true}

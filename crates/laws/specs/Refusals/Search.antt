@@ -6,8 +6,7 @@ use Rattle.std.proofs.Common.{◌∙◌}
 use Prim.Native.Nat.{ℕ, suc, ◌+◌, ◌-◌, ◌<◌, ◌≤◌}
 use native.Mathlib.Omega.{arith}
 use borrow.Author.Tests.{ne_eqb}
-use Rattle.model.specs.declared.Checked.TheVariants.{Accepted}
-use Rattle.model.specs.Refusals.{refuse, first_fault}
+use Rattle.model.specs.Refusals.{refuse, first_fault, Accepted}
 
 -- the answer from place 0 is the answer from place i
 pub record Searched (fault : ℕ → ℕ) (n i : ℕ) : Type 0 where

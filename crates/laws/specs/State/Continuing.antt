@@ -1,19 +1,16 @@
 -- Continuing, clause by clause, for code that goes instant by instant; a full state never meets 26, and 26 can be seen before a line takes anything in.
 -- Assumes nothing.
-use Rattle.std.specs.Prelude.{Bool, true, false, ◌&&◌, ◌≡◌, ℕ, zero, suc, ◌+◌, ◌<◌, ◌≤◌, eqb, length}
+use Rattle.std.specs.Prelude.{Bool, true, false, ◌&&◌, ◌≡◌, ℕ, zero, suc, ◌+◌, ◌<◌, ◌≤◌, eqb, length, Ok, Err}
 use mathlib.Core.List.{List}
 use Rattle.std.proofs.Math.Path.{refl, sym, ap, ap₂}
 use Rattle.std.proofs.Common.{◌∙◌, arith}
 use Rattle.std.proofs.Math.Dec.{ltb}
-use Rattle.model.specs.declared.Cell.{Cell}
-use Rattle.model.specs.declared.Checked.{Checked}
-use Rattle.model.specs.declared.Checked.TheVariants.{Accepted, Refused}
 use Rattle.model.specs.declared.Refusal.{Refusal}
 use Rattle.model.specs.declared.Format.{Format}
 use Rattle.model.specs.declared.Format.TheVariants.{Full, Compact}
 use Rattle.model.specs.Circuit.{Netlist, cell_at, high}
 use Rattle.model.specs.Word.{pick}
-use Rattle.model.specs.Refusals.{refuse, first_fault, fault_if}
+use Rattle.model.specs.Refusals.{refuse, first_fault, fault_if, Checked, Accepted}
 use Rattle.model.specs.State.{Course, course, longer, base, now_at, left_at, value, step_state, crowded, crowding, continued}
 use Rattle.laws.specs.Refusals.Laws.{by_bool}
 use Rattle.laws.specs.State.Passes.{now-counted, one, one-high, two, two-high, after, now-three, step_is}
@@ -27,11 +24,11 @@ module _ (F : Format) (net : Netlist) (f n : ℕ) (s : List ℕ) where
   abbrev onward : Checked → Bool → Course
   onward c b =
       elim c as (λ z. Course) [
-        | Accepted ↦ elim b as (λ z. Course) [ true ↦ course Accepted t 1 | false ↦ longer (continued F net f n t) ]
-        | Refused r ↦ course (Refused r) s 0
+        | Ok _ ↦ elim b as (λ z. Course) [ true ↦ course Accepted t 1 | false ↦ longer (continued F net f n t) ]
+        | Err r ↦ course (Err r) s 0
       ]
 
-  pub continued-crowded : (r : Refusal) → crowding F net s t ≡ Refused r → continued F net f (suc n) s ≡ course (Refused r) s 0
+  pub continued-crowded : (r : Refusal) → crowding F net s t ≡ Err r → continued F net f (suc n) s ≡ course (Err r) s 0
   unfolding continued
   continued-crowded r e = ap (λ (c : Checked). onward c (high (now_at F t f))) e
 

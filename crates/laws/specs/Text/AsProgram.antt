@@ -1,16 +1,14 @@
 -- A text that passes 17 and 18 is compiled and run as its program is; what an accepted text gives.
 -- Assumes nothing.
-use Rattle.std.specs.Prelude.{◌≡◌, List, ◌∷◌, ◌++◌, ℕ, length, drop}
+use Rattle.std.specs.Prelude.{◌≡◌, List, ◌∷◌, ◌++◌, ℕ, length, drop, Result}
 use Rattle.std.proofs.Common.{sym, ap, ◌∙◌}
 use Rattle.std.proofs.Math.Path.{ap₂}
 use Rattle.std.proofs.Math.ListN.{take}
 use Rattle.std.proofs.Math.Seq.{take-append_seam}
+use Rattle.model.specs.declared.Refusal.{Refusal}
 use Rattle.model.specs.declared.Options.{Options}
-use Rattle.model.specs.declared.Checked.{Checked}
-use Rattle.model.specs.declared.Checked.TheVariants.{Accepted}
 use Rattle.model.specs.declared.Written.{Written}
-use Rattle.model.specs.declared.Written.TheVariants.{Done}
-use Rattle.model.specs.Refusals.{first}
+use Rattle.model.specs.Refusals.{first, Checked, Accepted, Done}
 use Rattle.model.specs.ProgramChecks.{program_with, check_of}
 use Rattle.model.specs.Numbering.{finish}
 use Rattle.model.specs.declared.Format.TheVariants.{Full}
@@ -61,5 +59,5 @@ module _ (options : Options) (text lent : List ℕ) (n f : ℕ) (done : (read_te
   pub program-made : take n (read_text_call options text lent).lent ≡ text_program text
   unfolding read_text_call
   program-made =
-      ap₂ (λ (k : ℕ) (r : Returned Written). take k r.lent) read.count read.told
+      ap₂ (λ (k : ℕ) (r : Returned (Result Written Refusal)). take k r.lent) read.count read.told
       ∙ take-append_seam (text_program text) (drop (length (text_program text)) lent)

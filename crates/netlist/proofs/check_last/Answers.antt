@@ -1,9 +1,9 @@
 -- `check_last` meets its contract. Assumes nothing.
-use Rattle.std.proofs.Common.{◌≡◌, ℕ, ◌*◌, true, ◌||◌, ltb, List, length, refl, ap, ◌∙◌, arith, ltb-false, le-ltb}
-use Rattle.model.specs.declared.Checked.TheVariants.{Accepted}
+use Rattle.model.specs.Refusals.{Accepted}
+use Rattle.std.proofs.Common.{◌≡◌, ℕ, ◌*◌, true, ◌||◌, ltb, List, length, refl, ap, ◌∙◌, arith, le-ltb}
 use Rattle.model.specs.NetlistFile.{cell_limit, blocks_for, count_of, cells_at, in_file, cells_of, file_check, last_check}
 use Rattle.laws.specs.Refusals.Laws.{not-both}
-use Rattle.netlist.proofs.FileChecks.{neither, accepted-whole, accepted-room}
+use Rattle.netlist.proofs.FileChecks.{accepted-whole, accepted-room}
 use Rattle.netlist.proofs.check_last.Goals as goal
 
 -- an accepted file has room for its cells
@@ -18,12 +18,7 @@ returns-then-file-lt-BLOCK c =
 
 pub returns-then-n-file : goal.returns-then-n-file
 returns-then-n-file c =
-    λ e. never-short c.args.file.now c.get16-n.ensures c.if-n-file.true e
-
-pub check_last-requires : goal.check_last-requires
-check_last-requires c =
-    let fits = neither _ _ c.if-n-file.false in
-    record { few = ltb-false cell_limit _ fits.0; fits = ltb-false _ _ fits.1 }
+    λ e. never-short c.args.file.now c.get16-n.ensures (rw c.blocks_for.ensures at c.if-n-file.true) e
 
 pub returns : goal.returns
 unfolding cells_of

@@ -1,5 +1,10 @@
 -- The check is what a scan tells.
+use Rattle.std.proofs.Common.{sym, ◌∙◌}
+use Rattle.laws.specs.Refusals.Laws.{handed_on}
 use Rattle.program.proofs.check.Goals as goal
 
+pub returns-in_err-scan : goal.returns-in_err-scan
+returns-in_err-scan c = handed_on _ c.from_residual.ensures.1 ∙ sym c.in_err-scan.ensures
+
 pub returns : goal.returns
-returns c = c.scan-told.ensures.checked
+returns c = sym c.in_ok-scan.ensures.0

@@ -1,28 +1,22 @@
 -- Refusals 7, 25 and 8, in their order.
-use mathlib.Core.Path.{◌∙◌}
-use Rattle.laws.specs.Refusals.Laws.{first_one}
+use Rattle.std.proofs.Common.{◌∙◌}
+use Rattle.laws.specs.Refusals.Laws.{first_one, handed_on}
 use Rattle.program.specs.Roots.{clash_fault}
 use Rattle.model.specs.Program.{program_of}
 use Rattle.program.proofs.last_check.Goals as goal
 
-pub first_slow-slow-requires : goal.first_slow-slow-requires
-first_slow-slow-requires c = let pre = c.requires in (pre.0.laid.short, pre.1)
+pub first_slow-requires : goal.first_slow-requires
+first_slow-requires c = (c.requires.0.laid.short, c.requires.1)
 
-pub returns-in-Refused : goal.returns-in-Refused
-returns-in-Refused c =
-    let first-slow = c.first_slow-slow in
-    rw (← first-slow.ensures, c.in-Refused.is)
+pub returns-in_err-first_slow : goal.returns-in_err-first_slow
+returns-in_err-first_slow c = rw (← c.first_slow.ensures, c.in_err-first_slow.was) (handed_on _ c.from_residual.ensures.1)
 
-pub returns-in-Refused-both : goal.returns-in-Refused-both
+pub returns-in_err-first_clash : goal.returns-in_err-first_clash
 unfolding clash_fault program_of
-returns-in-Refused-both c =
-    let first-slow = c.first_slow-slow in
-    let first-clash = c.first_clash-both in
-    rw (← first-slow.ensures, c.in-Accepted.is, ← first-clash.ensures, c.in-Refused-both.is)
+returns-in_err-first_clash c =
+    rw (← c.first_slow.ensures, c.in_ok-first_slow.was, ← c.first_clash.ensures, c.in_err-first_clash.was) (handed_on _ c.from_residual-in_err-first_clash.ensures.1)
 
-pub returns-in-Accepted-both : goal.returns-in-Accepted-both
+pub returns : goal.returns
 unfolding clash_fault program_of
-returns-in-Accepted-both c =
-    let first-slow = c.first_slow-slow in
-    let first-clash = c.first_clash-both in
-    rw (← first-slow.ensures, c.in-Accepted.is, ← first-clash.ensures, c.in-Accepted-both.is) (c.first_clash.ensures ∙ first_one _)
+returns c =
+    rw (← c.first_slow.ensures, c.in_ok-first_slow.was, ← c.first_clash.ensures, c.in_ok-first_clash.was) (c.first_clash-2.ensures ∙ first_one _)

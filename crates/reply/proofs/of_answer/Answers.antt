@@ -1,9 +1,5 @@
 -- The reply of a run. Assumes nothing.
 use Rattle.reply.specs.Replies.{outcome_reply}
-use borrow.Author.Rules.{rules}
-use Rattle.reply.proofs.of_answer.Reads as reads
-use Rattle.reply.proofs.of_numbers.Reads as of-numbers-reads
-use Rattle.reply.proofs.of_refusal.Reads as of-refusal-reads
 use Rattle.reply.proofs.of_answer.Goals as goal
 
 pub returns-in-Ended : goal.returns-in-Ended

@@ -1,16 +1,12 @@
 -- The reply of a call that writes. Assumes nothing.
 use mathlib.Core.Path.{sym, ◌∙◌, ap}
 use Rattle.reply.specs.Replies.{written_reply}
-use borrow.Author.Rules.{rules}
-use Rattle.reply.proofs.of_written.Reads as reads
-use Rattle.reply.proofs.of_numbers.Reads as of-numbers-reads
-use Rattle.reply.proofs.of_refusal.Reads as of-refusal-reads
 use Rattle.reply.proofs.of_written.Goals as goal
 
-pub returns-in-Done : goal.returns-in-Done
+pub returns-in-Ok : goal.returns-in-Ok
 unfolding written_reply
-returns-in-Done c = c.of_numbers.ensures ∙ ap written_reply (sym c.in-Done.is)
+returns-in-Ok c = c.of_numbers.ensures ∙ ap written_reply (sym c.in-Ok.is)
 
-pub returns-in-Refused : goal.returns-in-Refused
+pub returns-in-Err : goal.returns-in-Err
 unfolding written_reply
-returns-in-Refused c = c.of_refusal.ensures ∙ ap written_reply (sym c.in-Refused.is)
+returns-in-Err c = c.of_refusal.ensures ∙ ap written_reply (sym c.in-Err.is)

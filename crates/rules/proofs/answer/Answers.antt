@@ -2,8 +2,8 @@
 use Rattle.rules.proofs.Answers.{answer-ended, answer-open}
 use Rattle.rules.proofs.answer.Goals as goal
 
-pub returns-then-ran : goal.returns-then-ran
-returns-then-ran c = answer-ended _ _ _ _ c.variables.ensures c.if-ran.true
+pub returns-in-Ended : goal.returns-in-Ended
+returns-in-Ended c = rw c.in-Ended.is (answer-ended _ _ _ _ c.variables.ensures)
 
-pub returns : goal.returns
-returns c = answer-open _ _ _ c.if-ran.false
+pub returns-in_default : goal.returns-in_default
+returns-in_default c = answer-open _ _ _ c.in_default.not-Ended

@@ -1,24 +1,14 @@
 -- The check's refusals, and the main program with the costs of a functional circuit.
-use mathlib.Core.Path.{sym, ◌∙◌}
+use Rattle.std.proofs.Common.{◌∙◌}
 use Rattle.laws.specs.Functional.Accepted.{table_alone}
-use Rattle.rules.proofs.Answers.{main-ready, functional-refused, functional-runs, functional-scans}
+use Rattle.rules.proofs.Answers.{main-ready, functional-refused, functional-runs, functional-accepted}
 use Rattle.rules.proofs.reference_functional.Goals as goal
 
+pub returns-in-Err : goal.returns-in-Err
+returns-in-Err c = c.refused.ensures ∙ functional-refused c.args.options _ _ _ _ c.in-Err.ensures
+
 pub run_main-requires : goal.run_main-requires
-run_main-requires c =
-    let start = c in
-    let scan = c.scan_functional-told in
-    let told = c.in-Accepted.is in
-    main-ready (table_alone start.args.options) _ _ (functional-scans start.args.options _ _ scan.ensures told) told
+run_main-requires c = main-ready (table_alone c.args.options) _ _ (functional-accepted c.args.options _ c.in-Ok.ensures.0) c.in-Ok.ensures.1
 
-pub returns-in-Refused : goal.returns-in-Refused
-returns-in-Refused c =
-    let start = c in
-    let scan = c.scan_functional-told in
-    c.refused.ensures ∙ functional-refused start.args.options _ _ _ _ (sym scan.ensures.checked ∙ c.in-Refused.is)
-
-pub returns-in-Accepted : goal.returns-in-Accepted
-returns-in-Accepted c =
-    let start = c in
-    let scan = c.scan_functional-told in
-    c.run_main.ensures ∙ functional-runs start.args.options _ _ _ (sym scan.ensures.checked ∙ c.in-Accepted.is)
+pub returns-in-Ok : goal.returns-in-Ok
+returns-in-Ok c = c.run_main.ensures ∙ functional-runs c.args.options _ _ _ c.in-Ok.ensures.0

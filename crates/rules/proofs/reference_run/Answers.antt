@@ -1,22 +1,13 @@
 -- The check's refusals, and the main program with the costs of a pulse length.
-use mathlib.Core.Path.{sym, ◌∙◌}
+use Rattle.std.proofs.Common.{◌∙◌}
 use Rattle.rules.proofs.Answers.{main-ready, call-refused, call-runs}
 use Rattle.rules.proofs.reference_run.Goals as goal
 
+pub returns-in-Err : goal.returns-in-Err
+returns-in-Err c = c.refused.ensures ∙ call-refused c.args.options _ _ _ _ c.in-Err.ensures
+
 pub run_main-requires : goal.run_main-requires
-run_main-requires c =
-    let start = c in
-    let scan = c.scan-told in
-    main-ready start.args.options _ _ scan.ensures c.in-Accepted.is
+run_main-requires c = main-ready c.args.options _ _ c.in-Ok.ensures.0 c.in-Ok.ensures.1
 
-pub returns-in-Refused : goal.returns-in-Refused
-returns-in-Refused c =
-    let start = c in
-    let scan = c.scan-told in
-    c.refused.ensures ∙ call-refused start.args.options _ _ _ _ (sym scan.ensures.checked ∙ c.in-Refused.is)
-
-pub returns-in-Accepted : goal.returns-in-Accepted
-returns-in-Accepted c =
-    let start = c in
-    let scan = c.scan-told in
-    c.run_main.ensures ∙ call-runs start.args.options _ _ _ (sym scan.ensures.checked ∙ c.in-Accepted.is)
+pub returns-in-Ok : goal.returns-in-Ok
+returns-in-Ok c = c.run_main.ensures ∙ call-runs c.args.options _ _ _ c.in-Ok.ensures.0

@@ -1,19 +1,12 @@
--- `words::all_digits` meets its contract. The invariant: the answer from byte 0 is the answer from byte i. Assumes nothing.
-use mathlib.Core.Path.{sym, ◌∙◌}
-use Rattle.scanner.proofs.Numbers.{digits_more, digits-stop, digits-end}
+-- all_digits: each byte is a digit. Assumes nothing.
+use Rattle.std.proofs.Common.{sym, ◌∙◌, rules, tests}
+use Rattle.std.proofs.lemmas.Iterator.{YieldsList-from_slice}
+use Rattle.std.proofs.lemmas.Iterator.Search.{all_from_yields_List}
+use Rattle.model.specs.Text.{digit}
+use Rattle.scanner.proofs.Numbers.{digits_all}
 use Rattle.scanner.proofs.all_digits.Goals as goal
 
-pub returns-then-not-is_digit : goal.returns-then-not-is_digit
-returns-then-not-is_digit c =
-    let at = c in
-    let digit = sym c.is_digit.ensures ∙ c.if-not-is_digit.true in
-    sym (at.loop-i.invariant ∙ digits-stop at.args.w.now c.loop-i-test.true digit)
-
-pub loop-i-preserved : goal.loop-i-preserved
-loop-i-preserved c =
-    let at = c in
-    let digit = sym c.is_digit.ensures ∙ c.if-not-is_digit.false in
-    at.loop-i.invariant ∙ digits_more at.args.w.now c.loop-i-test.true digit
-
 pub returns : goal.returns
-returns c = sym (c.loop-i.invariant ∙ digits-end c.args.w.now c.loop-i-test.false)
+returns c =
+    let w = c.args.w.now in
+    all_from_yields_List digit _ _ _ c.all.ensures.ran (YieldsList-from_slice w cc) (λ x b q k. search (rules, tests)) ∙ sym (digits_all w)

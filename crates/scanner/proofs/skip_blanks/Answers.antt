@@ -1,20 +1,16 @@
--- `words::skip_blanks` meets its contract. The invariant: the place after the blanks from i on is that from j on. Assumes nothing.
-use mathlib.Core.Path.{sym, ◌∙◌}
+-- skip_blanks: as many as there are blanks at the front of the rest. Assumes nothing.
+use Rattle.std.proofs.Common.{◌+◌, drop, ap, ◌∙◌, rules, tests}
+use Rattle.std.proofs.lemmas.Iterator.{YieldsList-from_slice}
+use Rattle.std.proofs.lemmas.Iterator.Consumers.{count_from_yields_List}
+use Rattle.std.proofs.lemmas.Iterator.Search.{YieldsList-from_take_while}
+use Rattle.std.proofs.lemmas.List.Folds.{length-prefix_len}
 use Rattle.model.specs.Text.{blank}
-use Rattle.scanner.specs.ScanningLaws.{front-more, front-stop, front-end}
 use Rattle.scanner.proofs.skip_blanks.Goals as goal
 
-pub returns-then-not-is_blank : goal.returns-then-not-is_blank
-returns-then-not-is_blank c =
-    let at = c in
-    let other = sym c.is_blank.ensures ∙ c.if-not-is_blank.true in
-    sym (at.loop-j.invariant ∙ front-stop blank at.args.text.now c.loop-j-test.true other)
-
-pub loop-j-preserved : goal.loop-j-preserved
-loop-j-preserved c =
-    let at = c in
-    let same = sym c.is_blank.ensures ∙ c.if-not-is_blank.false in
-    at.loop-j.invariant ∙ front-more blank at.args.text.now c.loop-j-test.true same
-
 pub returns : goal.returns
-returns c = sym (c.loop-j.invariant ∙ front-end blank c.args.text.now c.loop-j-test.false)
+returns c =
+    let s = drop c.args.i c.args.text.now in
+    ap (λ k. c.args.i + k)
+    (count_from_yields_List c.take_while.result _ c.count.ensures.ran
+    (YieldsList-from_take_while _ blank (YieldsList-from_slice s cc) c.take_while.ensures.closure c.take_while.ensures.done (λ x b q k. search (rules, tests)))
+    ∙ length-prefix_len blank s)

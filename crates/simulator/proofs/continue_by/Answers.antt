@@ -8,22 +8,21 @@ use Rattle.simulator.specs.Levels.{told}
 use Rattle.model.specs.State.{Course}
 use Rattle.simulator.proofs.continue_by.Goals as goal
 
-pub returns-in-Refused : goal.returns-in-Refused
+pub returns-in-Err : goal.returns-in-Err
 unfolding continue_call
-returns-in-Refused c =
-    let check-continue = c.check_continue-checked in
-    let clauses = going-refused _ _ _ _ _ _ _ (sym check-continue.ensures ∙ c.in-Refused.is) c.refused.ensures in record { answer = clauses.0; lent = clauses.1 }
+returns-in-Err c =
+    let check-continue = c.check_continue in
+    let clauses = going-refused _ _ _ _ _ _ _ (sym check-continue.ensures ∙ c.in-Err.is) c.refused.ensures in record { answer = clauses.0; lent = clauses.1 }
 
 pub continue_by-requires : goal.continue_by-requires
 continue_by-requires c =
     let args = c.args in
-    continue-accepted args.format args.netlist.now args.n args.state.now (sym c.check_continue-checked.ensures ∙ c.in_default.is)
+    continue-accepted args.format args.netlist.now args.n args.state.now (sym c.check_continue.ensures ∙ c.in_default.is)
 
 pub returns : goal.returns
 unfolding continue_call
 returns c =
-    let check-continue = c.check_continue-checked in
-    let enum_told = c.in_default in
+    let check-continue = c.check_continue in
     let args = c.args in
     let F = args.format in
     let file = args.netlist.now in

@@ -11,23 +11,22 @@ use Rattle.model.specs.State.{Course}
 use Rattle.simulator.proofs.Refusing.{start-accepted, run-refused, run-done}
 use Rattle.simulator.proofs.start.Goals as goal
 
-pub returns-in-Refused : goal.returns-in-Refused
+pub returns-in-Err : goal.returns-in-Err
 unfolding start_call
-returns-in-Refused c =
-    let check-start = c.check_start-checked in
-    let clauses = run-refused _ _ _ _ _ _ _ _ (sym check-start.ensures ∙ c.in-Refused.is) c.refused.ensures in record { answer = clauses.0; lent = clauses.1 }
+returns-in-Err c =
+    let check-start = c.check_start in
+    let clauses = run-refused _ _ _ _ _ _ _ _ (sym check-start.ensures ∙ c.in-Err.is) c.refused.ensures in record { answer = clauses.0; lent = clauses.1 }
 
 pub continue_by-requires : goal.continue_by-requires
 continue_by-requires c =
     let args = c.args in
-    let z = start-accepted args.format args.netlist.now args.state.now (sym c.check_start-checked.ensures ∙ c.in_default.is) in
+    let z = start-accepted args.format args.netlist.now args.state.now (sym c.check_start.ensures ∙ c.in_default.is) in
     (z.0, z.1, z.2)
 
 pub returns : goal.returns
 unfolding start_call
 returns c =
-    let check-start = c.check_start-checked in
-    let enum_told = c.in_default in
+    let check-start = c.check_start in
     let args = c.args in
     let F = args.format in
     let file = args.netlist.now in

@@ -15,13 +15,13 @@ use Rattle.slow.proofs.run.Goals as goal
 pub overflow_add-result : goal.overflow_add-result
 overflow_add-result c =
     let args = c.args in
-    let f = level (values_of args.cells.now args.n args.ors args.times.now args.words.now) args.finish in
+    let f = level (values_of args.net.now.cells.now args.net.now.n args.net.now.ors args.net.now.times.now args.net.now.words.now) args.net.now.finish in
     omega (arith, c.run-t.ensures.instant, end-within f 0 args.budget, c.requires.2)
 
 pub overflow_add-result-2 : goal.overflow_add-result-2
 overflow_add-result-2 c =
     let args = c.args in
-    let f = level (values_of args.cells.now args.n args.ors args.times.now args.words.now) args.finish in
+    let f = level (values_of args.net.now.cells.now args.net.now.n args.net.now.ors args.net.now.times.now args.net.now.words.now) args.net.now.finish in
     omega (arith, c.run-t.ensures.instant, end-within f 0 args.budget, c.requires.2)
 
 pub returns-then-word_at-eq1 : goal.returns-then-word_at-eq1
@@ -29,17 +29,17 @@ returns-then-word_at-eq1 c =
     let args = c.args in
     let pre = c.requires in
     let r = c.run-t in
-    let cells = args.cells.now in
-    let n = args.n in
-    let W = values_of cells n args.ors args.times.now args.words.now in
+    let cells = args.net.now.cells.now in
+    let n = args.net.now.n in
+    let W = values_of cells n args.net.now.ors args.net.now.times.now args.net.now.words.now in
     let t = r.result in
     let s = r.new.work in
-    let T = end_at (level W args.finish) 0 args.budget in
-    let kept : KeptIn cells n args.ors args.times.now args.words.now t n s = c.run-t.ensures.kept in
-    let now : word_in s args.finish t ≡ W args.finish t = kept.seen.cells-now args.finish pre.1 in
-    let words = c.words_in-last.ensures ∙ kept-words cells n args.ors args.times.now args.words.now s t kept in
-    let bytes = kept-bytes cells n args.ors args.times.now args.words.now s t kept in record {
-      answer = answer-ended (net_of cells n) args.finish W t _ words (eq-eqb _ 1 (sym now ∙ sym c.word_at.ensures ∙ c.if-word_at-eq1.true)) ∙ ap (slow_answer (net_of cells n) args.finish W) c.run-t.ensures.instant;
+    let T = end_at (level W args.net.now.finish) 0 args.budget in
+    let kept : KeptIn cells n args.net.now.ors args.net.now.times.now args.net.now.words.now t n s = c.run-t.ensures.kept in
+    let now : word_in s args.net.now.finish t ≡ W args.net.now.finish t = kept.seen.cells-now args.net.now.finish pre.1 in
+    let words = c.words_in-last.ensures ∙ kept-words cells n args.net.now.ors args.net.now.times.now args.net.now.words.now s t kept in
+    let bytes = kept-bytes cells n args.net.now.ors args.net.now.times.now args.net.now.words.now s t kept in record {
+      answer = answer-ended (net_of cells n) args.net.now.finish W t _ words (eq-eqb _ 1 (sym now ∙ sym c.word_at.ensures ∙ c.if-word_at-eq1.true)) ∙ ap (slow_answer (net_of cells n) args.net.now.finish W) c.run-t.ensures.instant;
       values = c.put_values.ensures
           ∙ sym (overwrite-sets (value_bytes (λ k. word_in s k t) 0 n) args.values.now (omega (arith, bytes-length (λ k. word_in s k t) 0 n, pre.3)))
           ∙ ap (λ (b : List ℕ). overwrite b args.values.now) (bytes ∙ ap (λ (u : ℕ). value_bytes (λ k. W k u) 0 n) c.run-t.ensures.instant);
@@ -50,17 +50,17 @@ returns c =
     let args = c.args in
     let pre = c.requires in
     let r = c.run-t in
-    let cells = args.cells.now in
-    let n = args.n in
-    let W = values_of cells n args.ors args.times.now args.words.now in
+    let cells = args.net.now.cells.now in
+    let n = args.net.now.n in
+    let W = values_of cells n args.net.now.ors args.net.now.times.now args.net.now.words.now in
     let t = r.result in
     let s = r.new.work in
-    let T = end_at (level W args.finish) 0 args.budget in
-    let kept : KeptIn cells n args.ors args.times.now args.words.now t n s = c.run-t.ensures.kept in
-    let now : word_in s args.finish t ≡ W args.finish t = kept.seen.cells-now args.finish pre.1 in
-    let words = c.words_in-last.ensures ∙ kept-words cells n args.ors args.times.now args.words.now s t kept in
-    let bytes = kept-bytes cells n args.ors args.times.now args.words.now s t kept in record {
-      answer = answer-open (net_of cells n) args.finish W t _ words (ne_eqb _ 1 (λ e. c.if-word_at-eq1.false (c.word_at.ensures ∙ now ∙ e))) ∙ ap (slow_answer (net_of cells n) args.finish W) c.run-t.ensures.instant;
+    let T = end_at (level W args.net.now.finish) 0 args.budget in
+    let kept : KeptIn cells n args.net.now.ors args.net.now.times.now args.net.now.words.now t n s = c.run-t.ensures.kept in
+    let now : word_in s args.net.now.finish t ≡ W args.net.now.finish t = kept.seen.cells-now args.net.now.finish pre.1 in
+    let words = c.words_in-last.ensures ∙ kept-words cells n args.net.now.ors args.net.now.times.now args.net.now.words.now s t kept in
+    let bytes = kept-bytes cells n args.net.now.ors args.net.now.times.now args.net.now.words.now s t kept in record {
+      answer = answer-open (net_of cells n) args.net.now.finish W t _ words (ne_eqb _ 1 (λ e. c.if-word_at-eq1.false (c.word_at.ensures ∙ now ∙ e))) ∙ ap (slow_answer (net_of cells n) args.net.now.finish W) c.run-t.ensures.instant;
       values = c.put_values.ensures
           ∙ sym (overwrite-sets (value_bytes (λ k. word_in s k t) 0 n) args.values.now (omega (arith, bytes-length (λ k. word_in s k t) 0 n, pre.3)))
           ∙ ap (λ (b : List ℕ). overwrite b args.values.now) (bytes ∙ ap (λ (u : ℕ). value_bytes (λ k. W k u) 0 n) c.run-t.ensures.instant);

@@ -1,6 +1,7 @@
 -- Values that obey a netlist are words, below 65,536, and so are the elements of its arrays: where refusal 12 lets the netlist pass, and its
 -- start words and its cells' fields a, the constants among them, are words. Of a file of bytes these fields are. (That a control wire's value
 -- is 0 or 1 is Shapes' level-bound.) Assumes nothing.
+use Rattle.model.specs.Refusals.{Accepted}
 use Rattle.std.specs.Prelude.{◌≡◌, Bool, true, false, ◌&&◌, List, length}
 use mathlib.Core.WellFounded.{induction}
 use Prim.Native.Nat.{ℕ, zero, suc, ◌+◌, ◌<◌}
@@ -10,7 +11,6 @@ use Rattle.std.proofs.lemmas.Nat.{and_le_l, or_lt}
 use Rattle.std.proofs.Math.Dec.{eqb}
 use lib.WfN.{lt-wf_rel}
 use Rattle.model.specs.declared.Cell.{Cell}
-use Rattle.model.specs.declared.Checked.TheVariants.{Accepted}
 use Rattle.model.specs.Word.{pick, bit, operate, index, get16, Bytes}
 use Rattle.model.specs.Circuit.{falls, cell_at, array_at, Sig, Values, level, element, memory, latch, equation, start_word, Obeys, Shape, cell_table, shape, k_constant, k_complement, k_operator, k_start, k_ground, k_delay, k_or, k_when_true, k_when_false, k_merge, k_return, k_memory, k_gated, k_array, k_address, k_read, k_latch, k_unknown}
 use Rattle.model.specs.NetlistFile.{cell_from, cells_at, in_file, cells_of, count_of, finish_of, net_check, file_check, net_of, pulse_of}

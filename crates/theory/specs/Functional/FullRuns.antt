@@ -12,11 +12,10 @@ use Rattle.std.proofs.Math.Dec.{ltb}
 use borrow.Author.Tests.{lt-ltb, le-ltb, ne_eqb}
 use Rattle.model.specs.declared.Format.TheVariants.{Full}
 use Rattle.model.specs.declared.Options.{Options}
-use Rattle.model.specs.declared.Checked.TheVariants.{Accepted}
 use Rattle.model.specs.declared.Outcome.TheVariants.{Ended, Open}
 use Rattle.model.specs.declared.Answer.{Answer}
 use Rattle.model.specs.Word.{Bytes}
-use Rattle.model.specs.Refusals.{first}
+use Rattle.model.specs.Refusals.{first, Accepted}
 use Rattle.model.specs.ProgramChecks.{check_functional}
 use Rattle.model.specs.Program.{Stmt, program_of}
 use Rattle.model.specs.Rules.{functional, Store, Ends, ended, still, run, shows_at, due, at_end}

@@ -1,23 +1,21 @@
 -- Functional circuits keep their promise: compiling writes a file that is accepted, and a beginning and a whole list of calls on it, in the mode of a functional
 -- run and on a state of either format, do what the rules of functional circuits say.
 -- Assumes nothing.
-use Rattle.std.specs.Prelude.{◌≡◌, ◌↔◌, true, false, ℕ, zero, suc, ◌+◌, ◌-◌, ◌*◌, ◌<◌, ◌≤◌, ltb, length, drop}
+use Rattle.std.specs.Prelude.{◌≡◌, ◌↔◌, true, false, ℕ, zero, suc, ◌+◌, ◌-◌, ◌*◌, ◌<◌, ◌≤◌, ltb, length, drop, Result, Ok, Err}
 use Rattle.std.proofs.Math.Path.{refl, sym, ap, ap₂}
 use Rattle.std.proofs.Common.{◌∙◌, subst, arith, ltb-false}
 use mathlib.Core.List.{List, ◌∷◌, ◌++◌, map, append-nil}
 use Rattle.std.proofs.Math.ListN.{take}
 use Rattle.std.proofs.Math.Seq.{take-append_seam}
+use Rattle.model.specs.declared.Refusal.{Refusal}
 use Rattle.model.specs.declared.Cell.{Cell}
 use Rattle.model.specs.declared.Format.{Format}
 use Rattle.model.specs.declared.Format.TheVariants.{Full, Compact}
 use Rattle.model.specs.declared.Options.{Options}
-use Rattle.model.specs.declared.Checked.{Checked}
-use Rattle.model.specs.declared.Checked.TheVariants.{Accepted}
 use Rattle.model.specs.declared.Written.{Written}
-use Rattle.model.specs.declared.Written.TheVariants.{Done}
 use Rattle.model.specs.declared.Answer.{Answer}
 use Rattle.model.specs.Word.{get16, Bytes}
-use Rattle.model.specs.Refusals.{first}
+use Rattle.model.specs.Refusals.{first, Checked, Accepted, Done}
 use Rattle.model.specs.Program.{Stmt, program_of}
 use Rattle.model.specs.ProgramChecks.{check_functional}
 use Rattle.model.specs.Rules.{functional, Store, Ends, run, due}
@@ -82,7 +80,7 @@ module _ (options : Options) (program for_file : List ℕ) (n f : ℕ) (done : (
   pub file-made : take n (compile_functional_call options program for_file).lent ≡ file
   unfolding compile_functional_call
   file-made =
-      ap₂ (λ (k : ℕ) (r : Returned Written). take k r.lent) compiled.count compiled.told ∙ take-append_seam file (drop (length file) for_file)
+      ap₂ (λ (k : ℕ) (r : Returned (Result Written Refusal)). take k r.lent) compiled.count compiled.told ∙ take-append_seam file (drop (length file) for_file)
 
   some : 0 < length (netlist_of P)
   some = omega (arith, net-len P)
@@ -164,8 +162,8 @@ unfolding in_mode verdict
 began-checks F file words lent e = go (first (last_checks file)) refl
   where
     go : (c : Checked) → first (last_checks file) ≡ c → c ≡ Accepted
-    go Accepted p = refl
-    go (Checked.Refused q) p = not-refused (sym (ap (λ (c : Checked). verdict (in_mode F file c lent (begin_call F file words lent)).answer.outcome) p) ∙ e)
+    go (Ok _) p = refl
+    go (Err q) p = not-refused (sym (ap (λ (c : Checked). verdict (in_mode F file c lent (begin_call F file words lent)).answer.outcome) p) ∙ e)
 
 mode-accepted : (F : Format) (file : List ℕ) (checked : first (last_checks file) ≡ Accepted) (lent : List ℕ) (r : Returned Answer)
     → verdict (functionally F file lent r).answer.outcome ≡ Accepted → verdict r.answer.outcome ≡ Accepted
@@ -173,8 +171,8 @@ unfolding retold
 mode-accepted F file checked lent r e = go (verdict r.answer.outcome) refl
   where
     go : (c : Checked) → verdict r.answer.outcome ≡ c → verdict r.answer.outcome ≡ Accepted
-    go Accepted p = p
-    go (Checked.Refused q) p =
+    go (Ok _) p = p
+    go (Err q) p =
         sym (ap (λ (x : Returned Answer). verdict x.answer.outcome) (in-mode F file checked lent r ∙ ap (λ (c : Checked). retold F file c r) p)) ∙ e
 
 -- The last sixteen cells -------------------------------------------------------------------------------------------------------------------

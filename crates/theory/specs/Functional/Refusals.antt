@@ -1,16 +1,14 @@
 -- Demand 1 of the calls of functional circuits: each gives the first refusal in the published order, and a refusal leaves what was lent as it was, but 26.
 -- Assumes nothing.
-use Rattle.std.specs.Prelude.{◌≡◌, ◌&&◌, not, List, [], ◌∷◌, ◌++◌, ℕ, ◌+◌, leb, length}
+use Rattle.std.specs.Prelude.{◌≡◌, ◌&&◌, not, List, [], ◌∷◌, ◌++◌, ℕ, ◌+◌, leb, length, Ok, Err}
 use Rattle.std.proofs.Math.Path.{refl, sym}
 use Rattle.std.proofs.Common.{◌∙◌, ap, arith}
 use Rattle.std.proofs.Math.Bool.{true}
 use Rattle.model.specs.declared.Format.{Format}
 use Rattle.model.specs.declared.Format.TheVariants.{Full}
 use Rattle.model.specs.declared.Options.{Options}
-use Rattle.model.specs.declared.Checked.{Checked}
-use Rattle.model.specs.declared.Checked.TheVariants.{Accepted}
 use Rattle.model.specs.declared.Answer.{Answer}
-use Rattle.model.specs.Refusals.{number_of, refuse_if, first}
+use Rattle.model.specs.Refusals.{number_of, refuse_if, first, Checked}
 use Rattle.model.specs.Program.{node_at, node_count, time_in}
 use Rattle.model.specs.ProgramChecks.{added, added_fault, functional_checks, check_functional}
 use Rattle.model.specs.Rules.{functional, run}
@@ -54,13 +52,13 @@ last-gives file =
 
 retold-verdict : (F : Format) (file : List ℕ) (c : Checked) (r : Returned Answer) → verdict (retold F file c r).answer.outcome ≡ verdict r.answer.outcome
 unfolding retold
-retold-verdict F file Accepted r = refl
-retold-verdict F file (Checked.Refused q) r = refl
+retold-verdict F file (Ok _) r = refl
+retold-verdict F file (Err q) r = refl
 
 retold-lent : (F : Format) (file : List ℕ) (c : Checked) (r : Returned Answer) → (retold F file c r).lent ≡ r.lent
 unfolding retold
-retold-lent F file Accepted r = refl
-retold-lent F file (Checked.Refused q) r = refl
+retold-lent F file (Ok _) r = refl
+retold-lent F file (Err q) r = refl
 
 module _ (F : Format) (file lent : List ℕ) (r : Returned Answer) (cs : List Checked) (e : verdict r.answer.outcome ≡ first cs) where
   mode-verdict : verdict (functionally F file lent r).answer.outcome ≡ first (last_checks file ++ cs)
@@ -68,8 +66,8 @@ module _ (F : Format) (file lent : List ℕ) (r : Returned Answer) (cs : List Ch
   mode-verdict = go (first (last_checks file)) refl
     where
       go : (c : Checked) → first (last_checks file) ≡ c → verdict (in_mode F file c lent r).answer.outcome ≡ first (last_checks file ++ cs)
-      go Accepted p = retold-verdict F file (verdict r.answer.outcome) r ∙ e ∙ sym (first-append (last_checks file) cs p)
-      go (Checked.Refused q) p = sym (refused-append (last_checks file) cs q p)
+      go (Ok _) p = retold-verdict F file (verdict r.answer.outcome) r ∙ e ∙ sym (first-append (last_checks file) cs p)
+      go (Err q) p = sym (refused-append (last_checks file) cs q p)
 
   module _ (but : ℕ) (leaves : LeavesBut but (first cs) lent r.lent) where
     mode-leaves : LeavesBut but (first (last_checks file ++ cs)) lent (functionally F file lent r).lent
@@ -77,10 +75,10 @@ module _ (F : Format) (file lent : List ℕ) (r : Returned Answer) (cs : List Ch
     mode-leaves = go (first (last_checks file)) refl
       where
         go : (c : Checked) → first (last_checks file) ≡ c → LeavesBut but (first (last_checks file ++ cs)) lent (in_mode F file c lent r).lent
-        go Accepted p l k =
+        go (Ok _) p l k =
             let z : first (last_checks file ++ cs) ≡ first cs = first-append (last_checks file) cs p in
             retold-lent F file (verdict r.answer.outcome) r ∙ leaves (rw z at l) (λ x. k (ap number_of z ∙ x))
-        go (Checked.Refused q) p l k = refl
+        go (Err q) p l k = refl
 
 -- a run whose refusals leave what was lent
 mode-refuses : (F : Format) (file lent : List ℕ) (r : Returned Answer) (nss : List (List ℕ)) (cs : List Checked) → positive nss ≡ true → InOrder nss cs

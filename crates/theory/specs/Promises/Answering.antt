@@ -1,6 +1,6 @@
 -- What calls answer and leave on the states of a run of any accepted netlist, and that a full run is a beginning and a continuing.
 -- Assumes nothing.
-use Rattle.std.specs.Prelude.{◌≡◌, Bool, ltb, length}
+use Rattle.std.specs.Prelude.{◌≡◌, Bool, ltb, length, Ok, Err}
 use Rattle.std.proofs.Math.Path.{refl, ap}
 use Rattle.std.proofs.Common.{sym, ◌∙◌}
 use Rattle.std.proofs.Math.Bool.{true, false}
@@ -9,11 +9,9 @@ use Prim.Native.Nat.{ℕ, suc, ◌+◌, ◌-◌, ◌≤◌}
 use native.Mathlib.Omega.{arith}
 use borrow.Author.Tests.{le-ltb, ltb-false}
 use Rattle.model.specs.declared.Answer.{Answer}
-use Rattle.model.specs.declared.Checked.{Checked}
-use Rattle.model.specs.declared.Checked.TheVariants.{Accepted}
 use Rattle.model.specs.declared.Format.{Format}
 use Rattle.model.specs.declared.Format.TheVariants.{Full, Compact}
-use Rattle.model.specs.Refusals.{first}
+use Rattle.model.specs.Refusals.{first, Checked, Accepted}
 use Rattle.model.specs.Circuit.{memory_words, Netlist, Sig, Values, high, level, Obeys}
 use Rattle.model.specs.NetlistFile.{file_check, cells_of, net_of, finish_of}
 use Rattle.model.specs.State.{instant_of, state_size, now_at, Course, begin_state, step_state, continued, words_in}
@@ -36,8 +34,8 @@ use Rattle.theory.specs.Promises.Kept.{ran}
 -- a continuing that was not refused was accepted
 went : (F : Format) (c : Checked) (file : List ℕ) (o : Course) (lent : List ℕ) → verdict (going_on F c file o lent).answer.outcome ≡ Accepted → c ≡ Accepted
 unfolding going_on verdict
-went F Accepted file o lent e = refl
-went F (Checked.Refused r) file o lent e = e
+went F (Ok _) file o lent e = refl
+went F (Err r) file o lent e = e
 
 -- at instant 0 no pulse has come before another
 apart-first : (F : Format) (net : Netlist) (W : Values) → Apart F net W 0

@@ -2,13 +2,11 @@
 -- Assumes nothing.
 use Rattle.std.specs.Prelude.{◌≡◌, refl, Bool, true, ◌&&◌, List, [], ◌∷◌, map, ℕ, zero, suc, ◌+◌, ◌*◌, ◌/◌, ◌%◌, ltb, length, replicate}
 use Rattle.std.proofs.Common.{◌∙◌, ap, ap₂, arith, ltb-true, le-ltb}
-use Rattle.model.specs.declared.Checked.{Checked}
 use Rattle.model.specs.declared.Outcome.{Outcome}
 use Rattle.model.specs.declared.Outcome.TheVariants.{Open}
-use Rattle.model.specs.declared.Written.TheVariants.{Done}
 use Rattle.model.specs.declared.Answer.{Answer}
 use Rattle.model.specs.Word.{get16, get32, Bytes}
-use Rattle.model.specs.Refusals.{refuse}
+use Rattle.model.specs.Refusals.{refuse, Checked, Done}
 use Rattle.model.specs.ProgramChecks.{program_with}
 use Rattle.model.specs.NetlistFile.{blocks_for}
 use Rattle.model.specs.Numbering.{netlist, finish}

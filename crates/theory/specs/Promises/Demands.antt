@@ -1,10 +1,10 @@
 -- The user's three demands, as model/RefusalPromises, CircuitPromises and RunPromises state them.
 -- Assumes nothing.
+use Rattle.model.specs.Refusals.{Done}
 use Rattle.std.specs.Prelude.{◌≡◌, List, ℕ, ◌+◌, ◌*◌, ◌<◌, length, take}
 use Rattle.std.proofs.Common.{sym, ◌∙◌, ap, arith}
 use Rattle.laws.specs.NetlistFile.Compiled.{compiled-accepted}
 use Rattle.model.specs.declared.Options.{Options}
-use Rattle.model.specs.declared.Written.TheVariants.{Done}
 use Rattle.model.specs.Word.{get16, Bytes}
 use Rattle.model.specs.Program.{program_of}
 use Rattle.model.specs.ProgramChecks.{program_with}

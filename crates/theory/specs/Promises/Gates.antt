@@ -7,10 +7,9 @@ use Rattle.std.proofs.Math.Decide.{ℕ_discrete}
 use Rattle.std.proofs.Math.Dec.{eqb}
 use Rattle.model.specs.declared.Format.TheVariants.{Full}
 use Rattle.model.specs.declared.Options.{Options}
-use Rattle.model.specs.declared.Checked.TheVariants.{Accepted}
 use Rattle.model.specs.declared.Outcome.TheVariants.{Ended, Open}
 use Rattle.model.specs.Word.{pick, Bytes}
-use Rattle.model.specs.Refusals.{first}
+use Rattle.model.specs.Refusals.{first, Accepted}
 use Rattle.model.specs.Program.{Program, program_of, roots, time_in}
 use Rattle.model.specs.Procedures.{body_at}
 use Rattle.model.specs.ProgramChecks.{program_with}

@@ -1,20 +1,18 @@
 -- Demand 3: a beginning and a whole list of calls on the netlist of an accepted program, with a full or a compact state, do what the program's own
 -- rules say.
 -- Assumes nothing.
-use Rattle.std.specs.Prelude.{◌≡◌, true, false, ℕ, ◌<◌, ◌≤◌, ltb, length, drop}
+use Rattle.std.specs.Prelude.{◌≡◌, true, false, ℕ, ◌<◌, ◌≤◌, ltb, length, drop, Result, Ok, Err}
 use Rattle.std.proofs.Math.Path.{refl, ap, ap₂}
 use Rattle.std.proofs.Common.{sym, ◌∙◌, arith, ltb-false}
 use mathlib.Core.List.{List, ◌∷◌, map}
 use Rattle.std.proofs.Math.ListN.{take}
 use Rattle.std.proofs.Math.Seq.{take-append_seam}
+use Rattle.model.specs.declared.Refusal.{Refusal}
 use Rattle.model.specs.declared.Format.{Format}
 use Rattle.model.specs.declared.Options.{Options}
-use Rattle.model.specs.declared.Checked.{Checked}
-use Rattle.model.specs.declared.Checked.TheVariants.{Accepted}
 use Rattle.model.specs.declared.Written.{Written}
-use Rattle.model.specs.declared.Written.TheVariants.{Done}
 use Rattle.model.specs.declared.Answer.{Answer}
-use Rattle.model.specs.Refusals.{first}
+use Rattle.model.specs.Refusals.{first, Checked, Accepted, Done}
 use Rattle.model.specs.Program.{Stmt, Program, program_of}
 use Rattle.model.specs.Procedures.{meaning}
 use Rattle.model.specs.ProgramChecks.{program_with}
@@ -48,8 +46,8 @@ use Rattle.theory.specs.Promises.Behaves.{decides, due-exactly, Stood, shows-mem
 -- a run that was not refused was accepted
 pub ran : (F : Format) (c : Checked) (file s : List ℕ) (n : ℕ) (lent : List ℕ) → verdict (running F c file s n lent).answer.outcome ≡ Accepted → c ≡ Accepted
 unfolding running verdict
-ran F Accepted file s n lent e = refl
-ran F (Checked.Refused r) file s n lent e = e
+ran F (Ok _) file s n lent e = refl
+ran F (Err r) file s n lent e = e
 
 -- what compiling wrote
 module _ (options : Options) (program for_file : List ℕ) (n f : ℕ) (done : (compile_call options program for_file).answer ≡ Done n f) where
@@ -68,7 +66,7 @@ module _ (options : Options) (program for_file : List ℕ) (n f : ℕ) (done : (
   pub file-made : take n (compile_call options program for_file).lent ≡ compiled_file options program
   unfolding compile_call
   file-made =
-      ap₂ (λ (k : ℕ) (r : Returned Written). take k r.lent) compiled.count compiled.told
+      ap₂ (λ (k : ℕ) (r : Returned (Result Written Refusal)). take k r.lent) compiled.count compiled.told
       ∙ take-append_seam (compiled_file options program) (drop (length (compiled_file options program)) for_file)
 
 -- A beginning --------------------------------------------------------------------------------------------------------------------------

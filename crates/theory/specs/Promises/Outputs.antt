@@ -1,20 +1,18 @@
 -- What hubrun prints and hubtext writes: what the rules say of an input, and what a text stands for.
 -- Assumes nothing.
-use Rattle.std.specs.Prelude.{◌≡◌, false, List, [], ◌∷◌, ◌++◌, ℕ, ◌+◌, ◌≤◌, ltb, length, take, drop, replicate}
+use Rattle.std.specs.Prelude.{◌≡◌, false, List, [], ◌∷◌, ◌++◌, ℕ, ◌+◌, ◌≤◌, ltb, length, take, drop, replicate, Ok, Err}
 use Rattle.std.proofs.Math.Path.{refl, sym, ap}
 use Rattle.std.proofs.Common.{◌∙◌, ap₂, append_assoc, arith, length-append, length-take, get_or-drop, lt-ltb, le-ltb, ltb-false}
 use Rattle.std.proofs.lemmas.List.{length-replicate}
 use Rattle.std.proofs.Math.Seq.{take-append_seam}
 use Rattle.model.specs.declared.Answer.{Answer}
-use Rattle.model.specs.declared.Checked.{Checked}
-use Rattle.model.specs.declared.Checked.TheVariants.{Accepted}
 use Rattle.model.specs.declared.Format.{Format}
 use Rattle.model.specs.declared.Format.TheVariants.{Full}
 use Rattle.model.specs.declared.Outcome.{Outcome}
 use Rattle.model.specs.declared.Outcome.TheVariants.{Ended, Open}
 use Rattle.model.specs.declared.Refusal.{Refusal}
 use Rattle.model.specs.Word.{get32, Bytes}
-use Rattle.model.specs.Refusals.{first}
+use Rattle.model.specs.Refusals.{first, Checked, Accepted}
 use Rattle.model.specs.Program.{time_in}
 use Rattle.model.specs.Rules.{at_end, at_exit, Run, done, still}
 use Rattle.model.specs.ProgramChecks.{check_of}
@@ -31,17 +29,17 @@ use Rattle.theory.specs.Promises.Reference.{same-answers}
 use Rattle.theory.specs.Promises.Rooms.{checks, full-run-ended}
 
 -- a run that a check refuses, and an answer
-refused-run : (F : Format) (c : Checked) (file s : List ℕ) (n : ℕ) (lent : List ℕ) (r : Refusal) → c ≡ Checked.Refused r → (running F c file s n lent).answer ≡ refused_answer r
+refused-run : (F : Format) (c : Checked) (file s : List ℕ) (n : ℕ) (lent : List ℕ) (r : Refusal) → c ≡ Err r → (running F c file s n lent).answer ≡ refused_answer r
 unfolding running
 refused-run F c file s n lent r e = ap (λ (c : Checked). (running F c file s n lent).answer) e
 
-refused-answer : (c : Checked) (a : Answer) (r : Refusal) → c ≡ Checked.Refused r → answering c a ≡ refused_answer r
+refused-answer : (c : Checked) (a : Answer) (r : Refusal) → c ≡ Err r → answering c a ≡ refused_answer r
 unfolding answering
 refused-answer c a r e = ap (λ (c : Checked). answering c a) e
 
-by-checked : {Q : Type 0} (c : Checked) → (c ≡ Accepted → Q) → ((r : Refusal) → c ≡ Checked.Refused r → Q) → Q
-by-checked Accepted f g = f refl
-by-checked (Checked.Refused r) f g = g r refl
+by-checked : {Q : Type 0} (c : Checked) → (c ≡ Accepted → Q) → ((r : Refusal) → c ≡ Err r → Q) → Q
+by-checked (Ok _) f g = f refl
+by-checked (Err r) f g = g r refl
 
 by-outcome : {Q : Type 0} (o : Outcome) → (o ≡ Ended → Q) → (o ≡ Open → Q) → ((r : Refusal) → o ≡ Outcome.Refused r → Q) → Q
 by-outcome Ended f g h = f refl
@@ -90,7 +88,7 @@ module _ (input : List ℕ) (bytes : Bytes input) (l : 36 ≤ length input) wher
   abbrev both : Checked
   both = first (take 3 (reference_checks defaults program words n))
 
-  refused-alike : (r : Refusal) → both ≡ Checked.Refused r → (full ≡ refused_answer r) × (reference_of input ≡ refused_answer r)
+  refused-alike : (r : Refusal) → both ≡ Err r → (full ≡ refused_answer r) × (reference_of input ≡ refused_answer r)
   unfolding run_program_call reference_call
   refused-alike r e = (
     refused-run Full _ _ _ _ _ r (first-take 3 (run_program_checks defaults program words n (replicate 6656 0) (replicate 41480 0)) e),
@@ -139,7 +137,7 @@ accepted-verdict : (c : Checked) (n : ℕ) (r : Run) → c ≡ Accepted → verd
 unfolding answering
 accepted-verdict c n r e = ap (λ (c : Checked). verdict (answering c (reference_answer n r)).outcome) e ∙ rules-accept n r
 
-refused-verdict : (c : Checked) (a : Answer) (r : Refusal) → c ≡ Checked.Refused r → verdict (answering c a).outcome ≡ Checked.Refused r
+refused-verdict : (c : Checked) (a : Answer) (r : Refusal) → c ≡ Err r → verdict (answering c a).outcome ≡ Err r
 unfolding answering verdict
 refused-verdict c a r e = ap (λ (c : Checked). verdict (answering c a).outcome) e
 
@@ -184,7 +182,7 @@ module _ (text lent : List ℕ) where
       let r = writing c (text_program text) (length (text_program text)) 0 lent in
       written r.answer r.lent
 
-  text-refusal : (r : Refusal) → text_refused text ≡ Checked.Refused r
+  text-refusal : (r : Refusal) → text_refused text ≡ Err r
       → output (first (read_text_checks defaults text lent)) ≡ line (refused_word ∷ decimal r.number ∷ decimal r.place ∷ [])
   unfolding writing written
   text-refusal r e = ap output (ap first all-checks ∙ refused-append before (room ∷ []) r e)

@@ -5,11 +5,8 @@ use Rattle.std.proofs.Common.{sym, ap, subst, ◌∙◌, append_assoc, arith}
 use Rattle.model.specs.declared.Format.{Format}
 use Rattle.model.specs.declared.Format.TheVariants.{Full}
 use Rattle.model.specs.declared.Options.{Options}
-use Rattle.model.specs.declared.Checked.{Checked}
-use Rattle.model.specs.declared.Checked.TheVariants.{Accepted}
-use Rattle.model.specs.declared.Written.TheVariants.{Done}
 use Rattle.model.specs.Word.{Bytes}
-use Rattle.model.specs.Refusals.{first}
+use Rattle.model.specs.Refusals.{first, Checked, Accepted, Done}
 use Rattle.model.specs.Procedures.{meaning}
 use Rattle.model.specs.ProgramChecks.{program_with, check_of}
 use Rattle.model.specs.Numbering.{finish}

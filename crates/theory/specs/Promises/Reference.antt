@@ -1,15 +1,13 @@
 -- The tree of an accepted program is its nodes, its reference run tells the end that the rules give, and a full run answers as the reference run.
 -- Assumes nothing.
-use Rattle.std.specs.Prelude.{◌≡◌, false, List, ℕ, ◌≤◌, ltb, length}
+use Rattle.std.specs.Prelude.{◌≡◌, false, List, ℕ, ◌≤◌, ltb, length, Ok, Err}
 use Rattle.std.proofs.Math.Path.{refl, sym, ap}
 use Rattle.std.proofs.Common.{◌∙◌, ltb-false}
 use Rattle.model.specs.declared.Format.TheVariants.{Full}
 use Rattle.model.specs.declared.Options.{Options}
-use Rattle.model.specs.declared.Checked.{Checked}
-use Rattle.model.specs.declared.Checked.TheVariants.{Accepted}
 use Rattle.model.specs.declared.Outcome.TheVariants.{Ended, Open}
 use Rattle.model.specs.declared.Answer.{Answer}
-use Rattle.model.specs.Refusals.{first}
+use Rattle.model.specs.Refusals.{first, Checked, Accepted}
 use Rattle.model.specs.Program.{program_of, Stmt}
 use Rattle.model.specs.Procedures.{inlined, meaning}
 use Rattle.model.specs.ProgramChecks.{program_with}
@@ -39,8 +37,8 @@ use Rattle.laws.specs.NetlistFile.Compiled.{compiled-accepted}
 -- an answer that is no refusal is that of an accepted call
 pub answered : (c : Checked) (a : Answer) → verdict (answering c a).outcome ≡ Accepted → (c ≡ Accepted) × (answering c a ≡ a)
 unfolding answering verdict
-answered Accepted a e = (refl, refl)
-answered (Checked.Refused r) a e = not-refused e
+answered (Ok _) a e = (refl, refl)
+answered (Err r) a e = not-refused e
 
 module _ (options : Options) (program words : List ℕ) (n : ℕ) (answered-so : verdict (reference_call options program words n).outcome ≡ Accepted) where
   abbrev P : Stmt

@@ -12,12 +12,10 @@ use Rattle.std.proofs.Math.ListN.{length, drop, get_or-append}
 use borrow.Author.Tests.{lt-ltb, le-ltb, ltb-false}
 use Rattle.model.specs.declared.Refusal.{Refusal}
 use Rattle.model.specs.declared.Format.{Format}
-use Rattle.model.specs.declared.Checked.{Checked}
-use Rattle.model.specs.declared.Checked.TheVariants.{Accepted}
 use Rattle.model.specs.declared.Outcome.TheVariants.{Ended, Open}
 use Rattle.model.specs.declared.Answer.{Answer}
 use Rattle.model.specs.Word.{pick}
-use Rattle.model.specs.Refusals.{refuse, refuse_if, number_of, first}
+use Rattle.model.specs.Refusals.{refuse, refuse_if, number_of, first, Checked, Accepted}
 use Rattle.model.specs.Program.{Stmt, gap}
 use Rattle.model.specs.Rules.{Costs, Store, ended, still, run, shows_at, due}
 use Rattle.model.specs.Circuit.{Netlist, Sig, Values, high, level, Obeys}

@@ -4,11 +4,9 @@ use Rattle.std.specs.Prelude.{◌≡◌, List, ℕ, ◌≤◌, length}
 use Rattle.std.proofs.Common.{◌∙◌, ap, arith}
 use borrow.Author.Tests.{le-ltb}
 use Rattle.model.specs.declared.Options.{Options}
-use Rattle.model.specs.declared.Checked.TheVariants.{Accepted}
 use Rattle.model.specs.declared.Outcome.TheVariants.{Ended}
-use Rattle.model.specs.declared.Written.TheVariants.{Done}
 use Rattle.model.specs.Word.{Bytes}
-use Rattle.model.specs.Refusals.{first}
+use Rattle.model.specs.Refusals.{first, Accepted, Done}
 use Rattle.model.specs.ProgramChecks.{program_with}
 use Rattle.model.specs.NetlistFile.{net_of, file_check}
 use Rattle.model.specs.Numbering.{netlist, finish}

@@ -7,10 +7,8 @@ use mathlib.Core.List.{List, ◌∷◌, ◌++◌}
 use native.Mathlib.Omega.{arith}
 use Rattle.std.proofs.Math.ListN.{get_or, replicate, length-replicate, get_or-eq_default}
 use borrow.Author.Tests.{eqb-true, eqb-false, ltb-false, ne_eqb, le-ltb, le-leb, lt-leb}
-use Rattle.model.specs.declared.Checked.{Checked}
-use Rattle.model.specs.declared.Checked.TheVariants.{Accepted}
 use Rattle.model.specs.Word.{bytes16, Bytes}
-use Rattle.model.specs.Refusals.{first_fault}
+use Rattle.model.specs.Refusals.{first_fault, Checked, Accepted}
 use Rattle.model.specs.NetlistFile.{word_sum}
 use Rattle.model.specs.TimeTables.{byte_wrong, table_fault, table_sum_wrong, table_checks, times_in, given, load, verdict_of, times_of, beside}
 use Rattle.model.specs.Calls.{listed}

@@ -1,6 +1,6 @@
 -- Refusal 26: how a continuing goes until it is met, that it alone changes what was lent, and that a start never meets it.
 -- Assumes nothing.
-use Rattle.std.specs.Prelude.{◌≡◌, Bool, not, ◌&&◌, ◌||◌, List, [], ◌∷◌, ◌++◌, eqb, ltb, leb, length, get_or}
+use Rattle.std.specs.Prelude.{◌≡◌, Bool, not, ◌&&◌, ◌||◌, List, [], ◌∷◌, ◌++◌, eqb, ltb, leb, length, get_or, Ok, Err}
 use Rattle.std.proofs.Math.Path.{refl, sym}
 use Rattle.std.proofs.Common.{◌∙◌, ap, subst, true≢false, add-zero}
 use Rattle.std.proofs.Math.Bool.{true, false}
@@ -9,13 +9,11 @@ use Prim.Native.Nat.{ℕ, zero, suc, ◌+◌, ◌-◌, ◌<◌, ◌≤◌}
 use native.Mathlib.Omega.{arith}
 use borrow.Author.Tests.{eqb-true, eq-eqb, le-ltb, ltb-false, leb-true}
 use Rattle.model.specs.declared.Cell.{Cell}
-use Rattle.model.specs.declared.Checked.{Checked}
-use Rattle.model.specs.declared.Checked.TheVariants.{Accepted, Refused}
 use Rattle.model.specs.declared.Refusal.{Refusal}
 use Rattle.model.specs.declared.Format.{Format}
 use Rattle.model.specs.declared.Format.TheVariants.{Full, Compact}
 use Rattle.model.specs.Word.{pick, bit}
-use Rattle.model.specs.Refusals.{number_of, first}
+use Rattle.model.specs.Refusals.{number_of, first, Checked, Accepted}
 use Rattle.model.specs.Circuit.{Netlist, cell_at, no_cell, high, control, merges}
 use Rattle.model.specs.NetlistFile.{net_of, finish_of}
 use Rattle.model.specs.State.{remaining_at, most_left, flight_of, Course, course, longer, base, now_at, before_at, held_at, left_at, line_bit, line_at, flight, step_state, crowded, crowding, continued, line_sound, cell_sound, cells_sound, sound}
@@ -31,9 +29,9 @@ use Rattle.theory.specs.Refusals.Order.{within, gives-fault, faulty-if, gives-fi
 -- How a continuing goes ------------------------------------------------------------------------------------------------------------------
 
 -- by what the next instant meets
-by-check : {A : Type 0} (c : Checked) → (c ≡ Accepted → A) → ((r : Refusal) → c ≡ Refused r → A) → A
-by-check Accepted f g = f refl
-by-check (Refused r) f g = g r refl
+by-check : {A : Type 0} (c : Checked) → (c ≡ Accepted → A) → ((r : Refusal) → c ≡ Err r → A) → A
+by-check (Ok _) f g = f refl
+by-check (Err r) f g = g r refl
 
 pub goes : (F : Format) (net : Netlist) (f n : ℕ) (s : List ℕ) → Goes F net f n s (continued F net f n s)
 unfolding continued later
@@ -59,7 +57,7 @@ goes F net f (suc n) s =
     Gone : Course → Type 0
     Gone c = Goes F net f (suc n) s c
 
-    crowded-at : (r : Refusal) → crowding F net s t ≡ Refused r → Goes F net f (suc n) s (course (Refused r) s 0)
+    crowded-at : (r : Refusal) → crowding F net s t ≡ Err r → Goes F net f (suc n) s (course (Err r) s 0)
     crowded-at r e =
         record {
           within = omega arith;
@@ -140,20 +138,20 @@ module _ (F : Format) (cs : List Checked) (file : List ℕ) (o : Course) (lent :
   going-verdict = go (first cs) refl
     where
       go : (c : Checked) → first cs ≡ c → verdict (going_on F c file o lent).answer.outcome ≡ first (cs ++ (o.check ∷ []))
-      go Accepted e =
+      go (Ok _) e =
           running-verdict F o.check file o.state o.count o.state ∙ first_one o.check ∙ sym (first-append cs (o.check ∷ []) e)
-      go (Refused r) e = sym (refused-append cs (o.check ∷ []) r e)
+      go (Err r) e = sym (refused-append cs (o.check ∷ []) r e)
 
   running-left : (c : Checked) (s : List ℕ) (n : ℕ) → (running F c file s n s).lent ≡ s
   unfolding running
-  running-left Accepted s n = refl
-  running-left (Refused r) s n = refl
+  running-left (Ok _) s n = refl
+  running-left (Err r) s n = refl
 
   going-left : first cs ≡ Accepted → (going_on F (first cs) file o lent).lent ≡ o.state
   unfolding going_on
   going-left e = rw e (running-left o.check o.state o.count)
 
-  going-kept : (r : Refusal) → first cs ≡ Refused r → (going_on F (first cs) file o lent).lent ≡ lent
+  going-kept : (r : Refusal) → first cs ≡ Err r → (going_on F (first cs) file o lent).lent ≡ lent
   unfolding going_on
   going-kept r e = rw e refl
 

@@ -1,17 +1,15 @@
 -- Demand 1: every call gives the first refusal in the published order, and a refusal leaves what was lent as it was; 26 leaves the state of the last
 -- good instant.
 -- Assumes nothing.
-use Rattle.std.specs.Prelude.{◌≡◌, ◌||◌, List, [], ◌∷◌, ℕ, ◌+◌, ◌*◌, ◌%◌, ltb, length}
+use Rattle.std.specs.Prelude.{◌≡◌, ◌||◌, List, [], ◌∷◌, ℕ, ◌+◌, ◌*◌, ◌%◌, ltb, length, Ok, Err}
 use Rattle.std.proofs.Math.Path.{refl}
 use Rattle.std.proofs.Common.{sym, arith}
 use Rattle.std.proofs.Math.Bool.{true}
 use Rattle.model.specs.declared.Options.{Options}
-use Rattle.model.specs.declared.Checked.{Checked}
-use Rattle.model.specs.declared.Checked.TheVariants.{Accepted, Refused}
 use Rattle.model.specs.declared.Cell.{Cell}
 use Rattle.model.specs.declared.Format.{Format}
 use Rattle.model.specs.declared.Format.TheVariants.{Full, Compact}
-use Rattle.model.specs.Refusals.{refuse_if, first}
+use Rattle.model.specs.Refusals.{refuse_if, first, Checked, Accepted}
 use Rattle.model.specs.Program.{time_in}
 use Rattle.model.specs.Procedures.{meaning}
 use Rattle.model.specs.ProgramChecks.{program_checks, program_with, check_of}
@@ -54,18 +52,18 @@ answered net f W t = no-refusal (level W f t)
 pub slow-verdict : (c : Checked) (options : Options) (program words : List ℕ) (n : ℕ) (for_values for_work : List ℕ)
     → verdict (slow_running c options program words n for_values for_work).answer.outcome ≡ c
 unfolding slow_running
-slow-verdict Accepted options program words n for_values for_work =
+slow-verdict (Ok _) options program words n for_values for_work =
     let S = slow_program options program in
     let W = slowly (time_in options.times) S (word_at words) in
     answered (netlist S) (finish S) W (end_at (level W (finish S)) 0 n)
-slow-verdict (Refused r) options program words n for_values for_work = unfold verdict in refl
+slow-verdict (Err r) options program words n for_values for_work = unfold verdict in refl
 
 slow-leaves : (c : Checked) (options : Options) (program words : List ℕ) (n : ℕ) (for_values for_work : List ℕ) →
     let r = slow_running c options program words n for_values for_work in
     Leaves c for_values r.values × Leaves c for_work r.work
 unfolding slow_running
-slow-leaves Accepted options program words n for_values for_work = (λ l. absurd (omega arith), λ l. absurd (omega arith))
-slow-leaves (Refused r) options program words n for_values for_work = (λ l. refl, λ l. refl)
+slow-leaves (Ok _) options program words n for_values for_work = (λ l. absurd (omega arith), λ l. absurd (omega arith))
+slow-leaves (Err r) options program words n for_values for_work = (λ l. refl, λ l. refl)
 
 slow-runs : (G : Given) (program words : List ℕ) (n : ℕ) (for_values for_work : List ℕ) →
     let r = slow_run_call (load G) program words n for_values for_work in

@@ -1,7 +1,7 @@
 -- The numbers that checks give, in the published order: what is found first is one of them, and a refusal leaves what was lent as it was.
 -- Assumes nothing.
 use Rattle.model.specs.declared.Options.{Options}
-use Rattle.std.specs.Prelude.{◌≡◌, Bool, not, ◌&&◌, ◌||◌, List, [], ◌∷◌, ◌++◌, ℕ, ◌+◌, ◌/◌, ◌%◌, ◌≤◌, eqb, ltb, leb, get_or}
+use Rattle.std.specs.Prelude.{◌≡◌, Bool, not, ◌&&◌, ◌||◌, List, [], ◌∷◌, ◌++◌, ℕ, ◌+◌, ◌/◌, ◌%◌, ◌≤◌, eqb, ltb, leb, get_or, Ok, Err}
 use Rattle.std.proofs.Math.Path.{refl}
 use Rattle.std.proofs.Common.{sym, ap, ◌∙◌, ap₂, true≢false, inr, ⊎_elim, arith, eq-eqb, eqb-true}
 use Rattle.std.proofs.Math.Bool.{true, false}
@@ -12,11 +12,9 @@ use Rattle.model.specs.declared.Node.{Node}
 use Rattle.model.specs.declared.Cell.{Cell}
 use Rattle.model.specs.declared.Format.{Format}
 use Rattle.model.specs.declared.Format.TheVariants.{Full, Compact}
-use Rattle.model.specs.declared.Checked.{Checked}
-use Rattle.model.specs.declared.Checked.TheVariants.{Accepted, Refused}
 use Rattle.model.specs.declared.Answer.{Answer}
 use Rattle.model.specs.Word.{pick}
-use Rattle.model.specs.Refusals.{refuse, number_of, refuse_if, first, first_fault, fault_if}
+use Rattle.model.specs.Refusals.{refuse, number_of, refuse_if, first, first_fault, fault_if, Checked, Accepted}
 use Rattle.model.specs.Program.{time_in, node_at, nodes_at, node_count, row_of, stmt_at, least, program_of, roots, Code, Stmt, ok, tick, assign, assign_elem, seq, par, ite, while, repeat, loop, exit, call, preorder_e, preorder}
 use Rattle.model.specs.Procedures.{inline, inlined, reached}
 use Rattle.model.specs.ProgramChecks.{unused_set, absent, node_fault, children, reading, root_sorts, searched, in_roots, delay_fault, shared_fault, shares, conflict_fault, conflicts, program_length_wrong, too_many_procedures, program_checks, check_of}
@@ -55,8 +53,8 @@ pub gives-fault : (ns : List ℕ) (fault : ℕ → ℕ) (n : ℕ) → ((i : ℕ)
 gives-fault ns fault n h = go (first_fault fault 0 n) refl
   where
     go : (c : Checked) → first_fault fault 0 n ≡ c → Gives ns c
-    go Accepted e = inl refl
-    go (Refused r) e =
+    go (Ok _) e = inl refl
+    go (Err r) e =
         let g = fault-number fault n r e in
         inr (ap (λ k. among k ns) (sym g.0) ∙ h r.place (omega (arith, g.0, g.1)))
 
@@ -106,8 +104,8 @@ pub gives-first : (whole : List ℕ) (nss : List (List ℕ)) (cs : List Checked)
 gives-first whole [] [] w o = inl refl
 gives-first whole [] (c ∷ cs) w o = absurd o
 gives-first whole (ns ∷ nss) [] w o = absurd o
-gives-first whole (ns ∷ nss) (Accepted ∷ cs) w o = gives-first whole nss cs (and-true (amid whole ns) _ w).1 o.1
-gives-first whole (ns ∷ nss) (Refused q ∷ cs) w o =
+gives-first whole (ns ∷ nss) (Ok _ ∷ cs) w o = gives-first whole nss cs (and-true (amid whole ns) _ w).1 o.1
+gives-first whole (ns ∷ nss) (Err q ∷ cs) w o =
     ⊎_elim (λ e. not-refused e) (λ g. inr (among-more whole ns q.number (and-true (amid whole ns) _ w).0 g)) o.0
 
 -- what a search over exits and calls gives, each exit and each call gives
@@ -259,33 +257,33 @@ budget-gives n = gives-if (ltb 1000000 n) 13 0
 -- what an answer says of refusals is what the checks found
 pub running-verdict : (F : Format) (c : Checked) (file s : List ℕ) (n : ℕ) (lent : List ℕ) → verdict (running F c file s n lent).answer.outcome ≡ c
 unfolding running verdict shows
-running-verdict F Accepted file s n lent = no-refusal (high (now_at F s (finish_of file)))
-running-verdict F (Refused r) file s n lent = refl
+running-verdict F (Ok _) file s n lent = no-refusal (high (now_at F s (finish_of file)))
+running-verdict F (Err r) file s n lent = refl
 
 running-leaves : (F : Format) (c : Checked) (file s : List ℕ) (n : ℕ) (lent : List ℕ) → Leaves c lent (running F c file s n lent).lent
 unfolding running
-running-leaves F Accepted file s n lent l = absurd (omega arith)
-running-leaves F (Refused q) file s n lent l = refl
+running-leaves F (Ok _) file s n lent l = absurd (omega arith)
+running-leaves F (Err q) file s n lent l = refl
 
 writing-leaves : (c : Checked) (result : List ℕ) (n f : ℕ) (lent : List ℕ) → Leaves c lent (writing c result n f lent).lent
 unfolding writing
-writing-leaves Accepted result n f lent l = absurd (omega arith)
-writing-leaves (Refused q) result n f lent l = refl
+writing-leaves (Ok _) result n f lent l = absurd (omega arith)
+writing-leaves (Err q) result n f lent l = refl
 
 pub placing-verdict : (c : Checked) (k : ℕ) (cs : List Cell) (n f : ℕ) (lent : List Cell) → written_verdict (placing c k cs n f lent).answer ≡ c
 unfolding placing written_verdict
-placing-verdict Accepted k cs n f lent = refl
-placing-verdict (Refused r) k cs n f lent = refl
+placing-verdict (Ok _) k cs n f lent = refl
+placing-verdict (Err r) k cs n f lent = refl
 
 pub placing-leaves : (c : Checked) (k : ℕ) (cs : List Cell) (n f : ℕ) (lent : List Cell) → Leaves c lent (placing c k cs n f lent).lent
 unfolding placing
-placing-leaves Accepted k cs n f lent l = absurd (omega arith)
-placing-leaves (Refused q) k cs n f lent l = refl
+placing-leaves (Ok _) k cs n f lent l = absurd (omega arith)
+placing-leaves (Err q) k cs n f lent l = refl
 
 pub answering-verdict : (c : Checked) (a : Answer) → verdict a.outcome ≡ Accepted → verdict (answering c a).outcome ≡ c
 unfolding answering verdict
-answering-verdict Accepted a h = h
-answering-verdict (Refused r) a h = refl
+answering-verdict (Ok _) a h = h
+answering-verdict (Err r) a h = refl
 
 -- no refusal has the number 0
 abbrev pub positive : List (List ℕ) → Bool
@@ -296,8 +294,8 @@ first-positive : (nss : List (List ℕ)) (cs : List Checked) → positive nss �
 first-positive [] [] w o e = refl
 first-positive [] (c ∷ cs) w o e = absurd o
 first-positive (ns ∷ nss) [] w o e = absurd o
-first-positive (ns ∷ nss) (Accepted ∷ cs) w o e = first-positive nss cs (and-true (not (among 0 ns)) _ w).1 o.1 e
-first-positive (ns ∷ nss) (Refused q ∷ cs) w o e =
+first-positive (ns ∷ nss) (Ok _ ∷ cs) w o e = first-positive nss cs (and-true (not (among 0 ns)) _ w).1 o.1 e
+first-positive (ns ∷ nss) (Err q ∷ cs) w o e =
     ⊎_elim (λ a. a)
     (λ g. absurd (true≢false (sym (and-true (not (among 0 ns)) _ w).0 ∙ ap not (ap (λ k. among k ns) (sym e) ∙ g)))) o.0
 

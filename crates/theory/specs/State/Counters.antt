@@ -10,9 +10,8 @@ use Rattle.std.proofs.Math.Dec.{ltb}
 use borrow.Author.Tests.{eq-eqb, eqb-true, le-ltb, ltb-false}
 use Rattle.model.specs.declared.Format.{Format}
 use Rattle.model.specs.declared.Format.TheVariants.{Full, Compact}
-use Rattle.model.specs.declared.Checked.TheVariants.{Accepted}
 use Rattle.model.specs.Word.{bit}
-use Rattle.model.specs.Refusals.{fault_if}
+use Rattle.model.specs.Refusals.{fault_if, Accepted}
 use Rattle.model.specs.Circuit.{Netlist, cell_at, Sig, Values, high, level, delayed, k_delay}
 use Rattle.model.specs.State.{now_at, left_at, line_bit, crowded, crowding}
 use Rattle.model.specs.CircuitPromises.{Free, Apart}

@@ -1,10 +1,10 @@
 -- One run: for any start instants, a netlist that keeps the rules has exactly one set of values that obeys its equations, every state of a run holds it, and
 -- continuing goes along the run.
 -- Assumes nothing.
+use Rattle.model.specs.Refusals.{Accepted}
 use Rattle.std.specs.Prelude.{◌≡◌, refl, true, List, ℕ, suc, ◌-◌, ◌<◌, ◌≤◌, length}
 use Rattle.std.proofs.Common.{ap, arith}
 use Rattle.model.specs.declared.Format.{Format}
-use Rattle.model.specs.declared.Checked.TheVariants.{Accepted}
 use Rattle.model.specs.Circuit.{Netlist, Sig, Values, high, level, Obeys}
 use Rattle.model.specs.State.{course, state_size, continued}
 use Rattle.model.specs.CircuitPromises.{state_at, stops_at, NoStart, Apart, OneRun}

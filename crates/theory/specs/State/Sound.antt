@@ -1,4 +1,5 @@
 -- A state that holds the values of an instant is never refused by 15; and every state of a run holds them.
+use Rattle.model.specs.Refusals.{Accepted}
 use Rattle.std.specs.Prelude.{Bool, true, false, not, ◌||◌, ◌≡◌, ◌↔◌, eqb, get_or, take, drop}
 use mathlib.Core.List.{List, [], ◌∷◌}
 use Rattle.std.proofs.Math.Path.{refl}
@@ -12,7 +13,6 @@ use Rattle.laws.specs.NetlistFile.CellBytes.{zero-run}
 use Rattle.model.specs.declared.Cell.{Cell}
 use Rattle.model.specs.declared.Format.{Format}
 use Rattle.model.specs.declared.Format.TheVariants.{Full, Compact}
-use Rattle.model.specs.declared.Checked.TheVariants.{Accepted}
 use Rattle.model.specs.Circuit.{Netlist, cell_at, no_cell, Sig, Values, level, control, Obeys, shape, k_delay}
 use Rattle.model.specs.NetlistFile.{all_zero}
 use Rattle.model.specs.State.{flight_of, base, state_size, now_at, before_at, left_at, remaining_byte, remaining_at, most_left, flight, crowded, crowding, line_sound, cell_sound, cells_sound, sound}

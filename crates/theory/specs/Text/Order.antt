@@ -2,8 +2,7 @@
 -- Assumes nothing.
 use Rattle.std.specs.Prelude.{refl, List, [], ◌∷◌, ◌++◌, ℕ, eqb, ltb, length}
 use Rattle.std.proofs.Common.{inl}
-use Rattle.model.specs.declared.Checked.{Checked}
-use Rattle.model.specs.Refusals.{refuse}
+use Rattle.model.specs.Refusals.{refuse, Checked}
 use Rattle.model.specs.ProgramChecks.{program_with, check_of}
 use Rattle.model.specs.TimeTables.{Given, load, given_check}
 use Rattle.model.specs.Numbering.{finish}

@@ -1,5 +1,6 @@
 -- What is promised of programs as text, as model/TextPromises states it.
 -- Assumes nothing.
+use Rattle.model.specs.Refusals.{Accepted, Done}
 use Rattle.std.proofs.Common.{arith, sym, ◌∙◌, subst, ap₂, length-append}
 use Rattle.model.specs.declared.texts.Token.{Token}
 use Rattle.std.specs.Prelude.{◌≡◌, List, [], ◌∷◌, ℕ, length, take}
@@ -7,8 +8,6 @@ use Rattle.std.proofs.Math.Path.{refl, ap}
 use Rattle.std.proofs.lemmas.List.{length-map}
 use Rattle.model.specs.declared.Options.{Options}
 use Rattle.model.specs.declared.Node.{Node}
-use Rattle.model.specs.declared.Checked.TheVariants.{Accepted}
-use Rattle.model.specs.declared.Written.TheVariants.{Done}
 use Rattle.model.specs.Program.{Code, stmt, roots, time_in, preorder, node_bytes, program_of}
 use Rattle.model.specs.ProgramChecks.{check_of}
 use Rattle.laws.specs.Program.Passed.{passed, program-trees, count-bodies}

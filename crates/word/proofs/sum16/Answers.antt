@@ -1,23 +1,14 @@
--- sum16: adding the rest comes out as at the start. Assumes nothing.
-use Rattle.std.proofs.Common.{sym, ◌∙◌, arith}
-use Rattle.word.proofs.Sums.{words_more, words-done}
+-- sum16: the sum of the first k words. Assumes nothing.
+use Rattle.std.proofs.Common.{refl, arith}
+use Rattle.model.specs.NetlistFile.{word_sum}
+use Rattle.word.proofs.Sums.{words_more}
 use Rattle.word.proofs.sum16.Goals as goal
 
-pub loop-left-init : goal.loop-left-init
-loop-left-init c = (omega arith, omega arith, omega arith)
+pub loop-k-init : goal.loop-k-init
+unfolding word_sum
+loop-k-init c = refl
 
-pub loop-left-preserved : goal.loop-left-preserved
-loop-left-preserved c =
-    let args = c.args in
-    let loop = c.loop-left in (
-      loop.invariant.0
-          ∙ words_more args.s.now loop.i loop.left loop.sum (omega arith) (omega arith) c.get16-w.ensures
-          c.wrapping_add_u16-sum.ensures.value,
-      omega arith,
-      omega (arith, c.wrapping_add_u16-sum.ensures.value),
-    )
-
-pub returns : goal.returns
-returns c =
-    let loop = c.loop-left in
-    sym (loop.invariant.0 ∙ words-done c.args.s.now loop.i loop.left loop.sum (omega arith) loop.invariant.2)
+pub loop-k-preserved : goal.loop-k-preserved
+loop-k-preserved c =
+    let loop = c.loop-k in
+    words_more c.args.s.now c.args.from loop.k loop.sum (omega arith) c.get16-sum.ensures loop.invariant

@@ -1,10 +1,6 @@
 -- `ors::put_chain` meets its contract: joining the wires that are left comes out as at the start. Assumes nothing.
-use Prim.Native.Nat.{◌-◌}
 use Rattle.compiler.proofs.Joining.{Chaining}
 use Rattle.compiler.proofs.ors.put_chain.Given as goal
 
 abbrev pub invariant-loop-k : goal.invariant-loop-k
-invariant-loop-k l = Chaining l.joint l.marks l.count l.x l.n l.initial.cells l.cells l.seen l.so_far l.next l.k
-
-abbrev pub decreases-loop-k : goal.decreases-loop-k
-decreases-loop-k l = l.count - l.k
+invariant-loop-k l = Chaining l.joint l.marks l.count l.x l.n l.initial.cells l.cells l.so_far l.next l.k

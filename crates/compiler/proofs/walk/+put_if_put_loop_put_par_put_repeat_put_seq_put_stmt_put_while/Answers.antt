@@ -6,8 +6,8 @@
 -- A sequence: P, and from its finish on Q. Assumes nothing.
 -- A node: its statement by its kind. Assumes nothing.
 -- A while: its switches, P, the 35 of start and P's finish, and the delay that it feeds. Assumes nothing.
-use Prim.Native.Nat.{◌+◌, ◌<◌, ◌≤◌}
-use Rattle.model.specs.Program.{node_count, ok, tick, assign, assign_elem, loop, exit, call, node_at, stmt_at}
+use Prim.Native.Nat.{◌+◌, ◌≤◌}
+use Rattle.model.specs.Program.{ok, tick, assign, assign_elem, loop, exit, call, stmt_at}
 use native.Mathlib.Omega.{arith}
 use mathlib.Core.Path.{◌∙◌, ◌≡◌, refl}
 use Rattle.model.specs.Numbering.{walk_count, delay_count, exit_count, exit_wires}
@@ -17,7 +17,8 @@ use Rattle.compiler.proofs.Parts.{switch-low, if-switches, if-first, if-second, 
 use Rattle.compiler.specs.Walk.{all_exits}
 use Rattle.laws.specs.Program.Trees.{at_tick, at-loop, at_exit, at_call}
 use Rattle.program.specs.Ends.{past-later}
-use Rattle.program.proofs.Children.{Inner, last-kind, second-later, assign-read, assign-elem-read, seq-read, par-read, ite-read, while-read, repeat_read}
+use Rattle.program.proofs.Children.{last-kind, second-later, assign-read, assign-elem-read, seq-read, par-read, ite-read, while-read, repeat_read}
+use Rattle.compiler.proofs.Reading.{inner-stmt}
 use Rattle.compiler.proofs.walk.+put_if_put_loop_put_par_put_repeat_put_seq_put_stmt_put_while.Goals as goal
 
 pub put_if-put_own-own-requires : goal.put_if-put_own-own-requires
@@ -215,49 +216,43 @@ put_stmt-returns-then-kind-eq16 t c = record { done = rw (c.stmt_node-node.ensur
 pub put_stmt-put_tick-requires : goal.put_stmt-put_tick-requires
 unfolding delay_count
 put_stmt-put_tick-requires t c =
-    let here_of : (c.args.i < node_count c.args.program.now) × (16 < c.stmt_node-node.result.kind) × (c.stmt_node-node.result ≡ node_at c.args.program.now c.args.i) = c.stmt_node-node.ensures.here c.if-kind-eq16.false in
-    let tick-of : stmt_at c.args.program.now c.args.i ≡ tick c.stmt_node-node.result.delay = at_tick _ _ here_of.0 _ here_of.2 c.if-kind-eq17.true in
+    let here = c.stmt_node-node.ensures.here c.if-kind-eq16.false in
+    let tick-of : stmt_at c.args.known.now.tree.program.now c.args.i ≡ tick c.stmt_node-node.result.delay = at_tick _ _ here.0 _ here.2 c.if-kind-eq17.true in
     let ready = rw tick-of at c.requires.1 in
     (omega (arith, ready.small, delays-fit ready), omega (arith, delays-fit ready))
 
 pub put_stmt-returns-then-kind-eq17 : goal.put_stmt-returns-then-kind-eq17
 unfolding exit_count exit_wires
 put_stmt-returns-then-kind-eq17 t c =
-    let here_of : (c.args.i < node_count c.args.program.now) × (16 < c.stmt_node-node.result.kind) × (c.stmt_node-node.result ≡ node_at c.args.program.now c.args.i) = c.stmt_node-node.ensures.here c.if-kind-eq16.false in
-    let tick-of : stmt_at c.args.program.now c.args.i ≡ tick c.stmt_node-node.result.delay = at_tick _ _ here_of.0 _ here_of.2 c.if-kind-eq17.true in
+    let here = c.stmt_node-node.ensures.here c.if-kind-eq16.false in
+    let tick-of : stmt_at c.args.known.now.tree.program.now c.args.i ≡ tick c.stmt_node-node.result.delay = at_tick _ _ here.0 _ here.2 c.if-kind-eq17.true in
     let ready = rw tick-of at c.requires.1 in
     let u = c.put_tick.ensures in
     record { done = rw tick-of (tick-done ready.apart u.cells u.place); outs = rw tick-of (opened-none (tick _) refl refl) }
 
 pub put_stmt-overflow_add-i1 : goal.put_stmt-overflow_add-i1
 put_stmt-overflow_add-i1 t c =
-    let here_of : (c.args.i < node_count c.args.program.now) × (16 < c.stmt_node-node.result.kind) × (c.stmt_node-node.result ≡ node_at c.args.program.now c.args.i) = c.stmt_node-node.ensures.here c.if-kind-eq16.false in
-    omega (arith, here_of.0, c.requires.0.short)
+    let here = c.stmt_node-node.ensures.here c.if-kind-eq16.false in
+    omega (arith, here.0, c.requires.0.short)
 
 pub put_stmt-next-i2-requires : goal.put_stmt-next-i2-requires
 put_stmt-next-i2-requires t c = omega (arith, c.requires.0.short)
 
 pub put_stmt-put_assign-requires : goal.put_stmt-put_assign-requires
 put_stmt-put_assign-requires t c =
-    let here_of : (c.args.i < node_count c.args.program.now) × (16 < c.stmt_node-node.result.kind) × (c.stmt_node-node.result ≡ node_at c.args.program.now c.args.i) = c.stmt_node-node.ensures.here c.if-kind-eq16.false in
-    let inner_of : Inner c.args.program.now c.args.ends.now c.args.i c.stmt_node-node.result c.next-i2.result = record { laid = c.requires.0; here = here_of.0; node = here_of.2; next = c.next-i2.ensures } in
-    let n = inner_of in
+    let n = inner-stmt c.requires.0 c.stmt_node-node.ensures c.if-kind-eq16.false c.next-i2.ensures in
     let pre = c.requires in
     (pre.0, rw (assign-read n c.in-18.is) at pre.1)
 
 pub put_stmt-put_seq-requires : goal.put_stmt-put_seq-requires
 put_stmt-put_seq-requires t c =
-    let here_of : (c.args.i < node_count c.args.program.now) × (16 < c.stmt_node-node.result.kind) × (c.stmt_node-node.result ≡ node_at c.args.program.now c.args.i) = c.stmt_node-node.ensures.here c.if-kind-eq16.false in
-    let inner_of : Inner c.args.program.now c.args.ends.now c.args.i c.stmt_node-node.result c.next-i2.result = record { laid = c.requires.0; here = here_of.0; node = here_of.2; next = c.next-i2.ensures } in
-    let n = inner_of in
+    let n = inner-stmt c.requires.0 c.stmt_node-node.ensures c.if-kind-eq16.false c.next-i2.ensures in
     let pre = c.requires in
     (omega (arith, n.here), (pre.0, rw (seq-read n c.in-19.is) at pre.1, second-later n, pre.2))
 
 pub put_stmt-put_par-requires : goal.put_stmt-put_par-requires
 put_stmt-put_par-requires t c =
-    let here_of : (c.args.i < node_count c.args.program.now) × (16 < c.stmt_node-node.result.kind) × (c.stmt_node-node.result ≡ node_at c.args.program.now c.args.i) = c.stmt_node-node.ensures.here c.if-kind-eq16.false in
-    let inner_of : Inner c.args.program.now c.args.ends.now c.args.i c.stmt_node-node.result c.next-i2.result = record { laid = c.requires.0; here = here_of.0; node = here_of.2; next = c.next-i2.ensures } in
-    let n = inner_of in
+    let n = inner-stmt c.requires.0 c.stmt_node-node.ensures c.if-kind-eq16.false c.next-i2.ensures in
     let pre = c.requires in
     (omega (arith, n.here), (pre.0, rw (par-read n c.in-20.is) at pre.1, second-later n, pre.2))
 
@@ -266,138 +261,111 @@ put_stmt-next-i3-requires t c = omega (arith, c.requires.0.short)
 
 pub put_stmt-put_if-requires : goal.put_stmt-put_if-requires
 put_stmt-put_if-requires t c =
-    let here_of : (c.args.i < node_count c.args.program.now) × (16 < c.stmt_node-node.result.kind) × (c.stmt_node-node.result ≡ node_at c.args.program.now c.args.i) = c.stmt_node-node.ensures.here c.if-kind-eq16.false in
-    let inner_of : Inner c.args.program.now c.args.ends.now c.args.i c.stmt_node-node.result c.next-i2.result = record { laid = c.requires.0; here = here_of.0; node = here_of.2; next = c.next-i2.ensures } in
-    let n = inner_of in
+    let n = inner-stmt c.requires.0 c.stmt_node-node.ensures c.if-kind-eq16.false c.next-i2.ensures in
     let pre = c.requires in
     (omega (arith, n.here, second-later n), (pre.0, rw (ite-read n _ c.next-i3.ensures c.in-21.is) at pre.1, past-later _ _ _ (n.laid.each _) _ c.next-i3.ensures, pre.2))
 
 pub put_stmt-put_while-requires : goal.put_stmt-put_while-requires
 put_stmt-put_while-requires t c =
-    let here_of : (c.args.i < node_count c.args.program.now) × (16 < c.stmt_node-node.result.kind) × (c.stmt_node-node.result ≡ node_at c.args.program.now c.args.i) = c.stmt_node-node.ensures.here c.if-kind-eq16.false in
-    let inner_of : Inner c.args.program.now c.args.ends.now c.args.i c.stmt_node-node.result c.next-i2.result = record { laid = c.requires.0; here = here_of.0; node = here_of.2; next = c.next-i2.ensures } in
-    let n = inner_of in
+    let n = inner-stmt c.requires.0 c.stmt_node-node.ensures c.if-kind-eq16.false c.next-i2.ensures in
     let pre = c.requires in
     (omega (arith, n.here, second-later n), (pre.0, rw (while-read n c.in-22.is) at pre.1, pre.2))
 
 pub put_stmt-put_element-requires : goal.put_stmt-put_element-requires
 put_stmt-put_element-requires t c =
-    let here_of : (c.args.i < node_count c.args.program.now) × (16 < c.stmt_node-node.result.kind) × (c.stmt_node-node.result ≡ node_at c.args.program.now c.args.i) = c.stmt_node-node.ensures.here c.if-kind-eq16.false in
-    let inner_of : Inner c.args.program.now c.args.ends.now c.args.i c.stmt_node-node.result c.next-i2.result = record { laid = c.requires.0; here = here_of.0; node = here_of.2; next = c.next-i2.ensures } in
-    let n = inner_of in
+    let n = inner-stmt c.requires.0 c.stmt_node-node.ensures c.if-kind-eq16.false c.next-i2.ensures in
     let pre = c.requires in
     (pre.0, rw (assign-elem-read n c.in-24.is) at pre.1)
 
 pub put_stmt-put_loop-requires : goal.put_stmt-put_loop-requires
 put_stmt-put_loop-requires t c =
-    let here_of : (c.args.i < node_count c.args.program.now) × (16 < c.stmt_node-node.result.kind) × (c.stmt_node-node.result ≡ node_at c.args.program.now c.args.i) = c.stmt_node-node.ensures.here c.if-kind-eq16.false in
-    let inner_of : Inner c.args.program.now c.args.ends.now c.args.i c.stmt_node-node.result c.next-i2.result = record { laid = c.requires.0; here = here_of.0; node = here_of.2; next = c.next-i2.ensures } in
-    let loop-of : stmt_at c.args.program.now c.args.i ≡ loop c.stmt_node-node.result.delay (stmt_at c.args.program.now (c.args.i + 1)) = let n = inner_of in at-loop _ _ n.here _ n.node c.in-25.is in
-    let n = inner_of in
+    let n = inner-stmt c.requires.0 c.stmt_node-node.ensures c.if-kind-eq16.false c.next-i2.ensures in
+    let loop-of : stmt_at c.args.known.now.tree.program.now c.args.i ≡ loop c.stmt_node-node.result.delay (stmt_at c.args.known.now.tree.program.now (c.args.i + 1)) = at-loop _ _ n.here _ n.node c.in-25.is in
     let pre = c.requires in
     (omega (arith, n.here), (pre.0, rw loop-of at pre.1, pre.2))
 
 pub put_stmt-put_exit-requires : goal.put_stmt-put_exit-requires
 unfolding all_exits
 put_stmt-put_exit-requires t c =
-    let here_of : (c.args.i < node_count c.args.program.now) × (16 < c.stmt_node-node.result.kind) × (c.stmt_node-node.result ≡ node_at c.args.program.now c.args.i) = c.stmt_node-node.ensures.here c.if-kind-eq16.false in
-    let inner_of : Inner c.args.program.now c.args.ends.now c.args.i c.stmt_node-node.result c.next-i2.result = record { laid = c.requires.0; here = here_of.0; node = here_of.2; next = c.next-i2.ensures } in
-    let exit-of : stmt_at c.args.program.now c.args.i ≡ exit = let n = inner_of in at_exit _ _ n.here _ n.node c.in-26.is in
+    let n = inner-stmt c.requires.0 c.stmt_node-node.ensures c.if-kind-eq16.false c.next-i2.ensures in
+    let exit-of : stmt_at c.args.known.now.tree.program.now c.args.i ≡ exit = at_exit _ _ n.here _ n.node c.in-26.is in
     let pre = c.requires in
     let ready = rw exit-of at pre.1 in
     (ready.outs, pre.2)
 
 pub put_stmt-put_call-requires : goal.put_stmt-put_call-requires
 put_stmt-put_call-requires t c =
-    let here_of : (c.args.i < node_count c.args.program.now) × (16 < c.stmt_node-node.result.kind) × (c.stmt_node-node.result ≡ node_at c.args.program.now c.args.i) = c.stmt_node-node.ensures.here c.if-kind-eq16.false in
-    let inner_of : Inner c.args.program.now c.args.ends.now c.args.i c.stmt_node-node.result c.next-i2.result = record { laid = c.requires.0; here = here_of.0; node = here_of.2; next = c.next-i2.ensures } in
-    let call-of : stmt_at c.args.program.now c.args.i ≡ call c.stmt_node-node.result.delay c.stmt_node-node.result.n = let n = inner_of in at_call _ _ n.here _ n.node c.in-27.is in
+    let n = inner-stmt c.requires.0 c.stmt_node-node.ensures c.if-kind-eq16.false c.next-i2.ensures in
+    let call-of : stmt_at c.args.known.now.tree.program.now c.args.i ≡ call c.stmt_node-node.result.delay c.stmt_node-node.result.n = at_call _ _ n.here _ n.node c.in-27.is in
     call_fits (rw call-of at c.requires.1)
 
 pub put_stmt-put_repeat-requires : goal.put_stmt-put_repeat-requires
 put_stmt-put_repeat-requires t c =
-    let here_of : (c.args.i < node_count c.args.program.now) × (16 < c.stmt_node-node.result.kind) × (c.stmt_node-node.result ≡ node_at c.args.program.now c.args.i) = c.stmt_node-node.ensures.here c.if-kind-eq16.false in
-    let inner_of : Inner c.args.program.now c.args.ends.now c.args.i c.stmt_node-node.result c.next-i2.result = record { laid = c.requires.0; here = here_of.0; node = here_of.2; next = c.next-i2.ensures } in
-    let last_of : 23 ≤ c.stmt_node-node.result.kind = last-kind (omega (arith, here_of.1, c.if-kind-eq17.false)) c.in_default.in_default-own.rest.0.0.0.0 in
-    let n = inner_of in
+    let here = c.stmt_node-node.ensures.here c.if-kind-eq16.false in
+    let n = inner-stmt c.requires.0 c.stmt_node-node.ensures c.if-kind-eq16.false c.next-i2.ensures in
+    let last_of : 23 ≤ c.stmt_node-node.result.kind = last-kind (omega (arith, here.1, c.if-kind-eq17.false)) c.in_default.in_default-own.rest.0.0.0.0 in
     let pre = c.requires in
     (omega (arith, n.here, second-later n), (pre.0, rw (repeat_read n last_of c.in_default.in_default-own.rest.0.0.0.1 c.in_default.in_default-own.rest.0.0.1 c.in_default.in_default-own.rest.0.1 c.in_default.in_default-own.rest.1) at pre.1, pre.2))
 
 pub put_stmt-returns-in-18 : goal.put_stmt-returns-in-18
 unfolding exit_count exit_wires
 put_stmt-returns-in-18 t c =
-    let here_of : (c.args.i < node_count c.args.program.now) × (16 < c.stmt_node-node.result.kind) × (c.stmt_node-node.result ≡ node_at c.args.program.now c.args.i) = c.stmt_node-node.ensures.here c.if-kind-eq16.false in
-    let inner_of : Inner c.args.program.now c.args.ends.now c.args.i c.stmt_node-node.result c.next-i2.result = record { laid = c.requires.0; here = here_of.0; node = here_of.2; next = c.next-i2.ensures } in
-    let n = inner_of in
+    let n = inner-stmt c.requires.0 c.stmt_node-node.ensures c.if-kind-eq16.false c.next-i2.ensures in
     record { done = rw (assign-read n c.in-18.is) (c.put_assign.ensures _); outs = rw (assign-read n c.in-18.is) (opened-none (assign _ _ _) refl refl) }
 
 pub put_stmt-returns-in-19 : goal.put_stmt-returns-in-19
 put_stmt-returns-in-19 t c =
-    let here_of : (c.args.i < node_count c.args.program.now) × (16 < c.stmt_node-node.result.kind) × (c.stmt_node-node.result ≡ node_at c.args.program.now c.args.i) = c.stmt_node-node.ensures.here c.if-kind-eq16.false in
-    let inner_of : Inner c.args.program.now c.args.ends.now c.args.i c.stmt_node-node.result c.next-i2.result = record { laid = c.requires.0; here = here_of.0; node = here_of.2; next = c.next-i2.ensures } in
-    let n = inner_of in
+    let n = inner-stmt c.requires.0 c.stmt_node-node.ensures c.if-kind-eq16.false c.next-i2.ensures in
     record { done = rw (seq-read n c.in-19.is) c.put_seq.ensures.done; outs = rw (seq-read n c.in-19.is) c.put_seq.ensures.outs }
 
 pub put_stmt-returns-in-20 : goal.put_stmt-returns-in-20
 put_stmt-returns-in-20 t c =
-    let here_of : (c.args.i < node_count c.args.program.now) × (16 < c.stmt_node-node.result.kind) × (c.stmt_node-node.result ≡ node_at c.args.program.now c.args.i) = c.stmt_node-node.ensures.here c.if-kind-eq16.false in
-    let inner_of : Inner c.args.program.now c.args.ends.now c.args.i c.stmt_node-node.result c.next-i2.result = record { laid = c.requires.0; here = here_of.0; node = here_of.2; next = c.next-i2.ensures } in
-    let n = inner_of in
+    let n = inner-stmt c.requires.0 c.stmt_node-node.ensures c.if-kind-eq16.false c.next-i2.ensures in
     record { done = rw (par-read n c.in-20.is) c.put_par.ensures.done; outs = rw (par-read n c.in-20.is) c.put_par.ensures.outs }
 
 pub put_stmt-returns-in-21 : goal.put_stmt-returns-in-21
 put_stmt-returns-in-21 t c =
-    let here_of : (c.args.i < node_count c.args.program.now) × (16 < c.stmt_node-node.result.kind) × (c.stmt_node-node.result ≡ node_at c.args.program.now c.args.i) = c.stmt_node-node.ensures.here c.if-kind-eq16.false in
-    let inner_of : Inner c.args.program.now c.args.ends.now c.args.i c.stmt_node-node.result c.next-i2.result = record { laid = c.requires.0; here = here_of.0; node = here_of.2; next = c.next-i2.ensures } in
-    let n = inner_of in
+    let n = inner-stmt c.requires.0 c.stmt_node-node.ensures c.if-kind-eq16.false c.next-i2.ensures in
     record { done = rw (ite-read n _ c.next-i3.ensures c.in-21.is) c.put_if.ensures.done; outs = rw (ite-read n _ c.next-i3.ensures c.in-21.is) c.put_if.ensures.outs }
 
 pub put_stmt-returns-in-22 : goal.put_stmt-returns-in-22
 put_stmt-returns-in-22 t c =
-    let here_of : (c.args.i < node_count c.args.program.now) × (16 < c.stmt_node-node.result.kind) × (c.stmt_node-node.result ≡ node_at c.args.program.now c.args.i) = c.stmt_node-node.ensures.here c.if-kind-eq16.false in
-    let inner_of : Inner c.args.program.now c.args.ends.now c.args.i c.stmt_node-node.result c.next-i2.result = record { laid = c.requires.0; here = here_of.0; node = here_of.2; next = c.next-i2.ensures } in
-    let n = inner_of in
+    let n = inner-stmt c.requires.0 c.stmt_node-node.ensures c.if-kind-eq16.false c.next-i2.ensures in
     record { done = rw (while-read n c.in-22.is) c.put_while.ensures.done; outs = rw (while-read n c.in-22.is) c.put_while.ensures.outs }
 
 pub put_stmt-returns-in-24 : goal.put_stmt-returns-in-24
 unfolding exit_count exit_wires
 put_stmt-returns-in-24 t c =
-    let here_of : (c.args.i < node_count c.args.program.now) × (16 < c.stmt_node-node.result.kind) × (c.stmt_node-node.result ≡ node_at c.args.program.now c.args.i) = c.stmt_node-node.ensures.here c.if-kind-eq16.false in
-    let inner_of : Inner c.args.program.now c.args.ends.now c.args.i c.stmt_node-node.result c.next-i2.result = record { laid = c.requires.0; here = here_of.0; node = here_of.2; next = c.next-i2.ensures } in
-    let n = inner_of in
+    let n = inner-stmt c.requires.0 c.stmt_node-node.ensures c.if-kind-eq16.false c.next-i2.ensures in
     record { done = rw (assign-elem-read n c.in-24.is) (c.put_element.ensures _); outs = rw (assign-elem-read n c.in-24.is) (opened-none (assign_elem _ _ _ _) refl refl) }
 
 pub put_stmt-returns-in-25 : goal.put_stmt-returns-in-25
 put_stmt-returns-in-25 t c =
-    let here_of : (c.args.i < node_count c.args.program.now) × (16 < c.stmt_node-node.result.kind) × (c.stmt_node-node.result ≡ node_at c.args.program.now c.args.i) = c.stmt_node-node.ensures.here c.if-kind-eq16.false in
-    let inner_of : Inner c.args.program.now c.args.ends.now c.args.i c.stmt_node-node.result c.next-i2.result = record { laid = c.requires.0; here = here_of.0; node = here_of.2; next = c.next-i2.ensures } in
-    let loop-of : stmt_at c.args.program.now c.args.i ≡ loop c.stmt_node-node.result.delay (stmt_at c.args.program.now (c.args.i + 1)) = let n = inner_of in at-loop _ _ n.here _ n.node c.in-25.is in
+    let n = inner-stmt c.requires.0 c.stmt_node-node.ensures c.if-kind-eq16.false c.next-i2.ensures in
+    let loop-of : stmt_at c.args.known.now.tree.program.now c.args.i ≡ loop c.stmt_node-node.result.delay (stmt_at c.args.known.now.tree.program.now (c.args.i + 1)) = at-loop _ _ n.here _ n.node c.in-25.is in
     record { done = rw loop-of c.put_loop.ensures.done; outs = rw loop-of c.put_loop.ensures.outs }
 
 pub put_stmt-returns-in-26 : goal.put_stmt-returns-in-26
 put_stmt-returns-in-26 t c =
-    let here_of : (c.args.i < node_count c.args.program.now) × (16 < c.stmt_node-node.result.kind) × (c.stmt_node-node.result ≡ node_at c.args.program.now c.args.i) = c.stmt_node-node.ensures.here c.if-kind-eq16.false in
-    let inner_of : Inner c.args.program.now c.args.ends.now c.args.i c.stmt_node-node.result c.next-i2.result = record { laid = c.requires.0; here = here_of.0; node = here_of.2; next = c.next-i2.ensures } in
-    let exit-of : stmt_at c.args.program.now c.args.i ≡ exit = let n = inner_of in at_exit _ _ n.here _ n.node c.in-26.is in
+    let n = inner-stmt c.requires.0 c.stmt_node-node.ensures c.if-kind-eq16.false c.next-i2.ensures in
+    let exit-of : stmt_at c.args.known.now.tree.program.now c.args.i ≡ exit = at_exit _ _ n.here _ n.node c.in-26.is in
     let u = c.put_exit.ensures in
     record { done = rw exit-of (exit-done u.place); outs = rw exit-of u.outs }
 
 pub put_stmt-returns-in-27 : goal.put_stmt-returns-in-27
 unfolding exit_count exit_wires
 put_stmt-returns-in-27 t c =
-    let here_of : (c.args.i < node_count c.args.program.now) × (16 < c.stmt_node-node.result.kind) × (c.stmt_node-node.result ≡ node_at c.args.program.now c.args.i) = c.stmt_node-node.ensures.here c.if-kind-eq16.false in
-    let inner_of : Inner c.args.program.now c.args.ends.now c.args.i c.stmt_node-node.result c.next-i2.result = record { laid = c.requires.0; here = here_of.0; node = here_of.2; next = c.next-i2.ensures } in
-    let call-of : stmt_at c.args.program.now c.args.i ≡ call c.stmt_node-node.result.delay c.stmt_node-node.result.n = let n = inner_of in at_call _ _ n.here _ n.node c.in-27.is in
+    let n = inner-stmt c.requires.0 c.stmt_node-node.ensures c.if-kind-eq16.false c.next-i2.ensures in
+    let call-of : stmt_at c.args.known.now.tree.program.now c.args.i ≡ call c.stmt_node-node.result.delay c.stmt_node-node.result.n = at_call _ _ n.here _ n.node c.in-27.is in
     let ready = rw call-of at c.requires.1 in
     let u = c.put_call.ensures in
     record { done = rw call-of (call-done ready.apart u.cells u.marks u.place); outs = rw call-of (opened-none (call _ _) refl refl) }
 
 pub put_stmt-returns-in_default : goal.put_stmt-returns-in_default
 put_stmt-returns-in_default t c =
-    let here_of : (c.args.i < node_count c.args.program.now) × (16 < c.stmt_node-node.result.kind) × (c.stmt_node-node.result ≡ node_at c.args.program.now c.args.i) = c.stmt_node-node.ensures.here c.if-kind-eq16.false in
-    let inner_of : Inner c.args.program.now c.args.ends.now c.args.i c.stmt_node-node.result c.next-i2.result = record { laid = c.requires.0; here = here_of.0; node = here_of.2; next = c.next-i2.ensures } in
-    let last_of : 23 ≤ c.stmt_node-node.result.kind = last-kind (omega (arith, here_of.1, c.if-kind-eq17.false)) c.in_default.in_default-own.rest.0.0.0.0 in
-    let n = inner_of in
+    let here = c.stmt_node-node.ensures.here c.if-kind-eq16.false in
+    let n = inner-stmt c.requires.0 c.stmt_node-node.ensures c.if-kind-eq16.false c.next-i2.ensures in
+    let last_of : 23 ≤ c.stmt_node-node.result.kind = last-kind (omega (arith, here.1, c.if-kind-eq17.false)) c.in_default.in_default-own.rest.0.0.0.0 in
     record { done = rw (repeat_read n last_of c.in_default.in_default-own.rest.0.0.0.1 c.in_default.in_default-own.rest.0.0.1 c.in_default.in_default-own.rest.0.1 c.in_default.in_default-own.rest.1) c.put_repeat.ensures.done; outs = rw (repeat_read n last_of c.in_default.in_default-own.rest.0.0.0.1 c.in_default.in_default-own.rest.0.0.1 c.in_default.in_default-own.rest.0.1 c.in_default.in_default-own.rest.1) c.put_repeat.ensures.outs }
 
 pub put_while-put_switches-switch-requires : goal.put_while-put_switches-switch-requires

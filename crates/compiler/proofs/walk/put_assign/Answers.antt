@@ -14,26 +14,19 @@ put_expr-e-requires c =
 
 pub put-requires : goal.put-requires
 put-requires c =
-    let e = c in
-    rw e.put_expr-e.auto.cells (assign-cell e.requires.1 e.put_expr-e.ensures)
+    rw c.put_expr-e.auto.cells (assign-cell c.requires.1 c.put_expr-e.ensures)
 
 pub overflow_add-e : goal.overflow_add-e
 overflow_add-e c =
-    let e = c in
-    let ready = e.requires.1 in
-    omega (arith, ready.small, assign-cell ready e.put_expr-e.ensures)
+    let ready = c.requires.1 in
+    omega (arith, ready.small, assign-cell ready c.put_expr-e.ensures)
 
 pub put_delays-requires : goal.put_delays-requires
 unfolding delay_count assignments
 put_delays-requires c =
-    let m = c in
-    let e = m in
-    rw (m.put.auto.cells, e.put_expr-e.auto.cells) (own-fits e.requires.1 refl refl)
+    rw (c.put.auto.cells, c.put_expr-e.auto.cells) (own-fits c.requires.1 refl refl)
 
 pub returns : goal.returns
 returns c =
-    let d = c.put_delays in
-    let m = c in
-    let e = m in
-    let ready = e.requires.1 in
-    λ F. assign-done ready.apart e.put_expr-e.ensures m.put.ensures c.put_delays.ensures.cells c.put_delays.ensures.marks c.put_delays.ensures.place
+    let ready = c.requires.1 in
+    λ F. assign-done ready.apart c.put_expr-e.ensures c.put.ensures c.put_delays.ensures.cells c.put_delays.ensures.marks c.put_delays.ensures.place

@@ -14,57 +14,38 @@ put_expr-index-requires c =
 
 pub put_expr-value-requires : goal.put_expr-value-requires
 put_expr-value-requires c =
-    let i = c in
-    let pre = i.requires in
-    rw i.put_expr-index.auto.cells (pre.0, element-value pre.1 i.put_expr-index.ensures)
+    let pre = c.requires in
+    rw c.put_expr-index.auto.cells (pre.0, element-value pre.1 c.put_expr-index.ensures)
 
 pub overflow_add-address : goal.overflow_add-address
 overflow_add-address c =
-    let e = c in
-    let i = e in
-    let ready = i.requires.1 in
-    omega (arith, ready.small, element-cells ready i.put_expr-index.ensures e.put_expr-value.ensures)
+    let ready = c.requires.1 in
+    omega (arith, ready.small, element-cells ready c.put_expr-index.ensures c.put_expr-value.ensures)
 
 pub put-requires : goal.put-requires
 put-requires c =
-    let e = c in
-    let i = e in
-    let ready = i.requires.1 in
-    rw (e.put_expr-value.auto.cells, i.put_expr-index.auto.cells) (omega (arith, element-cells ready i.put_expr-index.ensures e.put_expr-value.ensures))
+    let ready = c.requires.1 in
+    rw (c.put_expr-value.auto.cells, c.put_expr-index.auto.cells) (omega (arith, element-cells ready c.put_expr-index.ensures c.put_expr-value.ensures))
 
 pub put-requires-2 : goal.put-requires-2
 put-requires-2 c =
-    let m = c in
-    let e = m in
-    let i = e in
-    let ready = i.requires.1 in
-    rw (m.put.auto.cells, e.put_expr-value.auto.cells, i.put_expr-index.auto.cells) (omega (arith, element-cells ready i.put_expr-index.ensures e.put_expr-value.ensures))
+    let ready = c.requires.1 in
+    rw (c.put.auto.cells, c.put_expr-value.auto.cells, c.put_expr-index.auto.cells) (omega (arith, element-cells ready c.put_expr-index.ensures c.put_expr-value.ensures))
 
 pub overflow_add-own : goal.overflow_add-own
 overflow_add-own c = omega (arith, c.requires.1.formed.1)
 
 pub overflow_add-address-2 : goal.overflow_add-address-2
 overflow_add-address-2 c =
-    let e = c in
-    let i = e in
-    let ready = i.requires.1 in
-    omega (arith, ready.small, element-cells ready i.put_expr-index.ensures e.put_expr-value.ensures)
+    let ready = c.requires.1 in
+    omega (arith, ready.small, element-cells ready c.put_expr-index.ensures c.put_expr-value.ensures)
 
 pub put_delays-requires : goal.put_delays-requires
 unfolding delay_count assignments
 put_delays-requires c =
-    let n = c in
-    let m = n in
-    let e = m in
-    let i = e in
-    rw (n.put-2.auto.cells, m.put.auto.cells, e.put_expr-value.auto.cells, i.put_expr-index.auto.cells) (own-fits i.requires.1 refl refl)
+    rw (c.put-2.auto.cells, c.put.auto.cells, c.put_expr-value.auto.cells, c.put_expr-index.auto.cells) (own-fits c.requires.1 refl refl)
 
 pub returns : goal.returns
 returns c =
-    let d = c.put_delays in
-    let n = c in
-    let m = n in
-    let e = m in
-    let i = e in
-    let ready = i.requires.1 in
-    λ F. element-done ready.apart i.put_expr-index.ensures e.put_expr-value.ensures m.put.ensures n.put-2.ensures c.put_delays.ensures.cells c.put_delays.ensures.marks c.put_delays.ensures.place
+    let ready = c.requires.1 in
+    λ F. element-done ready.apart c.put_expr-index.ensures c.put_expr-value.ensures c.put.ensures c.put-2.ensures c.put_delays.ensures.cells c.put_delays.ensures.marks c.put_delays.ensures.place

@@ -1,57 +1,34 @@
 -- `walk::put_exits` meets its contract: joining the starts that are left comes out as at the start. Assumes nothing.
+use mathlib.Core.Path.{◌≡◌, ◌∙◌}
+use Prim.Native.Nat.{◌+◌, ◌-◌}
 use native.Mathlib.Omega.{arith}
+use lib.ListN.{drop}
+use lib.Seq.{get_or-take, get_or-drop}
 use Rattle.compiler.proofs.Exits.{exits-none, exits-start, exits-room, exits-more, exits-end}
 use Rattle.compiler.proofs.walk.put_exits.Goals as goal
 
 pub returns-then-end-first : goal.returns-then-end-first
 returns-then-end-first c = exits-none c.requires c.if-end-first.true
 
-pub offset_bounds-outs-first : goal.offset_bounds-outs-first
-offset_bounds-outs-first c = omega (arith, c.if-end-first.false, c.requires.most)
-
-pub bounds-outs-first : goal.bounds-outs-first
-bounds-outs-first c = omega (arith, c.if-end-first.false, c.requires.most)
-
-pub overflow_add-k : goal.overflow_add-k
-overflow_add-k c = omega (arith, c.if-end-first.false, c.requires.most)
-
-pub loop-k-init : goal.loop-k-init
-loop-k-init c = exits-start c.requires c.if-end-first.false
-
-pub offset_bounds-outs-k : goal.offset_bounds-outs-k
-offset_bounds-outs-k c = omega (arith, c.loop-k-test.true, c.requires.most)
-
-pub bounds-outs-k : goal.bounds-outs-k
-bounds-outs-k c = omega (arith, c.loop-k-test.true, c.requires.most)
+pub loop-start-init : goal.loop-start-init
+loop-start-init c =
+    let e : c.args.first + 1 + 0 ≡ c.args.first + 1 = omega arith in
+    rw e (exits-start c.requires (omega (arith, c.if-end-first.false)))
 
 pub put-requires : goal.put-requires
 put-requires c =
-    let test = c in
-    let pre = test.requires in
-    let inv = test.loop-k.invariant in
-    omega (arith, exits-room pre inv test.loop-k-test.true, pre.room, inv.same)
+    let pre = c.requires in
+    let inv = c.loop-start.invariant in
+    omega (arith, exits-room pre inv (omega arith), pre.room, inv.same)
 
-pub overflow_add-next : goal.overflow_add-next
-overflow_add-next c =
-    let test = c in
-    let pre = test.requires in
-    omega (arith, exits-room pre test.loop-k.invariant test.loop-k-test.true, pre.room, pre.small)
-
-pub overflow_add-k-in-loop-k : goal.overflow_add-k-in-loop-k
-overflow_add-k-in-loop-k c =
-    let test = c in
-    omega (arith, test.loop-k-test.true, test.requires.most)
-
-pub loop-k-smaller : goal.loop-k-smaller
-loop-k-smaller c = omega (arith, c.loop-k-test.true)
-
-pub loop-k-preserved : goal.loop-k-preserved
-loop-k-preserved c =
-    let test = c in
-    exits-more test.requires test.loop-k.invariant test.loop-k-test.true c.put.ensures
-
-pub shape_of-cells : goal.shape_of-cells
-shape_of-cells c = c.loop-k.invariant.same
+pub loop-start-preserved : goal.loop-start-preserved
+loop-start-preserved c =
+    let from = c.args.first + 1 in
+    let i = c.loop-start.start-index in
+    let outs = c.args.outs.now in
+    let e : from + (i + 1) ≡ from + i + 1 = omega arith in
+    let read = get_or-take (c.args.end - from) (drop from outs) i 0 (omega arith) ∙ get_or-drop from outs i 0 in
+    rw e (exits-more c.requires c.loop-start.invariant (omega arith) (rw read at c.put.ensures))
 
 pub returns : goal.returns
-returns c = exits-end c.requires c.loop-k.invariant c.loop-k-test.false
+returns c = exits-end c.requires c.loop-start.invariant (omega arith)

@@ -13,5 +13,4 @@ pub returns : goal.returns
 returns c =
     let pre = c.requires in
     let put-chain = c.put_chain-start in
-    let put-stmt = c.put_stmt in
     record { done = root-done pre.1 refl put-chain.ensures c.put_stmt.ensures.done; outs = c.put_stmt.ensures.outs.same ∙ pre.2 }

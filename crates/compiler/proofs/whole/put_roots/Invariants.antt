@@ -1,7 +1,7 @@
 -- `whole::put_roots` meets its contract: what is still to be put in from root r on comes out as at the start. Assumes nothing.
 use mathlib.Core.Path.{◌≡◌}
 use mathlib.Core.List.{List}
-use Prim.Native.Nat.{◌+◌, ◌-◌, ◌≤◌}
+use Prim.Native.Nat.{◌+◌, ◌≤◌}
 use lib.ListN.{length}
 use Rattle.model.specs.Program.{program_of}
 use Rattle.model.specs.Numbering.{Source}
@@ -11,8 +11,5 @@ use Rattle.compiler.proofs.whole.put_roots.Given as goal
 
 abbrev pub invariant-loop-r : goal.invariant-loop-r
 invariant-loop-r l =
-    (l.r ≤ l.procedures + 1) × (length l.outs ≡ 200)
-    × ((cs : List Source) → Told cs l.callers l.count → Rooting (program_of l.pulse l.procedures l.program) cs l.memory l.initial.cells l.initial.marks l.cells l.marks l.finishes l.at l.r)
-
-abbrev pub decreases-loop-r : goal.decreases-loop-r
-decreases-loop-r l = l.procedures + 1 - l.r
+    (l.r ≤ l.input.procedures + 1) × (length l.outs ≡ 200) × (l.known.tree ≡ l.input.tree) × (l.known.memory ≡ l.memory) × (l.known.pulse ≡ l.input.pulse)
+    × ((cs : List Source) → Told cs l.callers l.count → Rooting (program_of l.input.pulse l.input.procedures l.input.tree.program.now) cs l.memory l.initial.cells l.initial.marks l.cells l.marks l.known.finishes l.at l.r)

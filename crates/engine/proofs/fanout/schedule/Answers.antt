@@ -11,11 +11,6 @@ returns-then-d-eq0 c =
     events-are (scheduled a.width a.u a.f h) _ _ _ _ (c.put.ensures ∙ sym (ap (λ (x : Events). x.wheel) z)) (sym (ap (λ (x : Events). x.tag) z))
     (sym (ap (λ (x : Events). x.occupied) z)) (sym (ap (λ (x : Events). x.held) z))
 
-pub enter-requires : goal.enter-requires
-enter-requires c =
-    let pre = c.requires in
-    ((omega arith, omega arith, omega arith), omega arith, pre.4 (λ e. omega arith), omega arith)
-
 pub returns : goal.returns
 returns c =
     let a = c.args in

@@ -1,20 +1,12 @@
 -- `line_in` meets its contract: the first i inputs are in the wheel. Assumes nothing.
-use Rattle.std.proofs.Common.{◌≡◌, refl, arith}
+use Rattle.std.proofs.Common.{◌≡◌, arith}
 use Rattle.engine_laws.specs.Lines.{lined-zero, lined-byte, lined-one}
 use Rattle.engine.proofs.wheel.line_in.Goals as goal
-
-pub loop-i-init : goal.loop-i-init
-loop-i-init c = (omega arith, c.requires.7, refl)
 
 pub loop-i-preserved-then-x-eq0 : goal.loop-i-preserved-then-x-eq0
 loop-i-preserved-then-x-eq0 c =
     let l = c.loop-i.invariant in
     (omega arith, lined-byte _ _ _ _ _ _ _ _ _ _ l.1 (omega arith) (omega arith), l.2)
-
-pub enter-requires : goal.enter-requires
-enter-requires c =
-    let l = c.loop-i.invariant in
-    ((omega (arith, l.1.rows), omega (arith, l.1.rows), omega (arith, l.1.tags)), omega arith, omega arith, omega (arith, l.2))
 
 pub loop-i-preserved-then-x-eq1 : goal.loop-i-preserved-then-x-eq1
 loop-i-preserved-then-x-eq1 c =

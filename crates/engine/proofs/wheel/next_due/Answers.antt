@@ -4,25 +4,21 @@ use lib.Count.{trailing_le}
 use Rattle.engine_laws.specs.Sets.{free-here, free-less, onward, found, cleared}
 use Rattle.engine.proofs.wheel.next_due.Goals as goal
 
-pub loop-left-init : goal.loop-left-init
-loop-left-init c = (free-here _ _, omega arith, omega arith, omega arith, omega arith)
-
-pub overflow_add-result : goal.overflow_add-result
-overflow_add-result c = omega (arith, trailing_le 64 (onward c.args.occupied.now c.loop-left.w))
+pub loop-init : goal.loop-init
+loop-init c = (free-here _ _, omega arith, omega arith, omega arith)
 
 pub returns-then-x-ne0 : goal.returns-then-x-ne0
 returns-then-x-ne0 c =
     let s = c.args.occupied.now in
-    let w = c.loop-left.w in
+    let w = c.loop.w in
     let t = c.args.t in record {
       after = omega arith;
-      free = (λ h. found s t w c.loop-left.invariant.0 (omega (arith, c.type_inv.occupied (w % 256 / 64))) (omega (arith, c.if-x-ne0.true)), λ h. absurd (omega (arith, trailing_le 64 (onward s w))));
+      free = (λ h. found s t w c.loop.invariant.0 (omega (arith, c.type_inv.occupied (w % 256 / 64))) (omega (arith, c.if-x-ne0.true)), λ h. absurd (omega (arith, trailing_le 64 (onward s w))));
     }
 
-pub loop-left-preserved : goal.loop-left-preserved
-loop-left-preserved c = (
-  cleared c.args.occupied.now c.args.t c.loop-left.w c.loop-left.invariant.0 (omega (arith, c.if-x-ne0.false)),
-  omega arith,
+pub loop-preserved : goal.loop-preserved
+loop-preserved c = (
+  cleared c.args.occupied.now c.args.t c.loop.w c.loop.invariant.0 (omega (arith, c.if-x-ne0.false)),
   omega arith,
   omega arith,
   omega arith,
@@ -33,6 +29,6 @@ returns c = record {
   after = omega arith;
   free = (
     λ h. absurd (omega arith),
-    λ h. free-less c.args.occupied.now c.args.t (c.args.t + 257) c.loop-left.w (omega arith) c.loop-left.invariant.0,
+    λ h. free-less c.args.occupied.now c.args.t (c.args.t + 257) c.loop.w (omega arith) c.loop.invariant.0,
   );
 }

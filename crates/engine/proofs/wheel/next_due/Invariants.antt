@@ -3,8 +3,5 @@ use Rattle.std.proofs.Common.{◌+◌, ◌*◌, ◌%◌, ◌<◌, ◌≤◌}
 use Rattle.engine_laws.specs.Sets.{Free}
 use Rattle.engine.proofs.wheel.next_due.Given as goal
 
-abbrev pub invariant-loop-left : goal.invariant-loop-left
-invariant-loop-left l = Free l.occupied l.t l.w × (l.left ≤ 5) × (l.t < l.w) × (l.t + 258 + l.w % 64 ≤ l.w + 64 * l.left) × (l.w + 64 * l.left ≤ l.t + 321)
-
-abbrev pub decreases-loop-left : goal.decreases-loop-left
-decreases-loop-left l = l.left
+abbrev pub invariant-loop : goal.invariant-loop
+invariant-loop l = Free l.occupied l.t l.w × (l.t < l.w) × (l.t + 258 + l.w % 64 + 64 * l.counter ≤ l.w + 320) × (l.w ≤ l.t + 1 + 64 * l.counter)

@@ -1,5 +1,5 @@
 -- `read_cells` meets its contract: the cells below k are in the lists, and cell k begins at the cursor. Assumes nothing.
-use Rattle.std.proofs.Common.{◌≡◌, sym, ◌∙◌, ap, ℕ, length-set, arith}
+use Rattle.std.proofs.Common.{◌≡◌, sym, ◌∙◌, ap, ℕ, arith}
 use native.Mathlib.Nat.{zero-add}
 use Rattle.model.specs.Circuit.{cell_at}
 use Rattle.model.specs.NetlistFile.{in_file, cells_at, cell_from}
@@ -15,12 +15,7 @@ loop-k-preserved c =
     let cells = cells_at in_file args.file.now 0 args.n in
     let here : cell_at cells loop.k ≡ cell_from args.file.now (in_file loop.k) =
     cell-of in_file args.file.now 0 args.n loop.k c.loop-k-test.true ∙ ap (λ (j : ℕ). cell_from args.file.now (in_file j)) (zero-add loop.k) in
-    let e : c.cell_from-c.result ≡ cell_at cells loop.k = c.cell_from-c.ensures ∙ ap (cell_from args.file.now) loop.invariant.1 ∙ sym here in (
-      omega arith,
-      follows loop.k loop.invariant.1 c.next_offset-at.ensures,
-      decoded-more cells loop.kind loop.delay loop.a loop.b loop.k c.cell_from-c.result (omega arith) (omega arith) (omega arith) (omega arith) e loop.invariant.2,
-      simp length-set loop.invariant.3,
-      simp length-set loop.invariant.4,
-      simp length-set loop.invariant.5,
-      simp length-set loop.invariant.6,
+    let e : c.cell_from-c.result ≡ cell_at cells loop.k = c.cell_from-c.ensures ∙ ap (cell_from args.file.now) loop.invariant.0 ∙ sym here in (
+      follows loop.k loop.invariant.0 c.next_offset-at.ensures,
+      decoded-more cells loop.kind loop.delay loop.a loop.b loop.k c.cell_from-c.result (omega arith) (omega arith) (omega arith) (omega arith) e loop.invariant.1,
     )

@@ -10,9 +10,9 @@ marked s k = eqb (get_or s k 0) 1
 pub loop-k-preserved : goal.loop-k-preserved
 loop-k-preserved c =
     let args = c.args in
-    (omega arith, below_more (Passes (clears_at (marked args.cleared.now)) args.kind.now [] args.a.now args.b.now) _ c.loop-k.invariant.1 (c.clears-passes.ensures c.if-not-passes.false))
+    (below_more (Passes (clears_at (marked args.cleared.now)) args.kind.now [] args.a.now args.b.now) _ c.loop-k.invariant (c.clears-passes.ensures c.if-not-passes.false))
 
 pub returns : goal.returns
 returns c =
     let args = c.args in
-    λ h delays. all-clear (marked args.cleared.now) args.kind.now delays args.a.now args.b.now args.n (omega arith) (λ k l. c.loop-k.invariant.1 k (omega arith))
+    λ h delays. all-clear (marked args.cleared.now) args.kind.now delays args.a.now args.b.now args.n (omega arith) (λ k l. c.loop-k.invariant k (omega arith))

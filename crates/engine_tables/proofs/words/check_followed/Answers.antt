@@ -11,9 +11,9 @@ pub loop-k-preserved : goal.loop-k-preserved
 loop-k-preserved c =
     let args = c.args in
     let here = c.follows-passes.ensures c.if-not-passes.false in
-    (omega arith, below_more (Passes (follows_at (at args.sets.now) (at args.rank.now) (at args.delay.now)) args.kind.now args.delay.now args.a.now args.b.now) _ c.loop-k.invariant.1 (rw (c.only-array.ensures, c.only-memory.ensures) at here))
+    (below_more (Passes (follows_at (at args.sets.now) (at args.rank.now) (at args.delay.now)) args.kind.now args.delay.now args.a.now args.b.now) _ c.loop-k.invariant (rw (c.only-array.ensures, c.only-memory.ensures) at here))
 
 pub returns : goal.returns
 returns c =
     let args = c.args in
-    λ h. all-follow (at args.sets.now) (at args.rank.now) args.kind.now args.delay.now args.a.now args.b.now args.n (omega arith) (λ k l. c.loop-k.invariant.1 k (omega arith))
+    λ h. all-follow (at args.sets.now) (at args.rank.now) args.kind.now args.delay.now args.a.now args.b.now args.n (omega arith) (λ k l. c.loop-k.invariant k (omega arith))

@@ -4,4 +4,4 @@ use Rattle.model.specs.Program.{node_count}
 use Rattle.functional.proofs.counts.+count_expr.Given as goal
 
 abbrev pub decreases-count_expr : goal.decreases-count_expr
-decreases-count_expr l = node_count l.program.now - l.i
+decreases-count_expr l = node_count l.tree.now.program.now - l.i

@@ -5,13 +5,13 @@ use Rattle.model.specs.Program.{node_count}
 use Rattle.functional.proofs.counts.+count_if_count_loop_count_stmt_count_two.Given as goal
 
 abbrev pub decreases-count_two : goal.decreases-count_two
-decreases-count_two l = 3 * (node_count l.program.now - l.first) + 2
+decreases-count_two l = 3 * (node_count l.tree.now.program.now - l.first) + 2
 
 abbrev pub decreases-count_if : goal.decreases-count_if
-decreases-count_if l = 3 * (node_count l.program.now - l.second) + 3
+decreases-count_if l = 3 * (node_count l.tree.now.program.now - l.second) + 3
 
 abbrev pub decreases-count_loop : goal.decreases-count_loop
-decreases-count_loop l = 3 * (node_count l.program.now - l.second) + 2
+decreases-count_loop l = 3 * (node_count l.tree.now.program.now - l.second) + 2
 
 abbrev pub decreases-count_stmt : goal.decreases-count_stmt
-decreases-count_stmt l = 3 * (node_count l.program.now - l.i) + 1
+decreases-count_stmt l = 3 * (node_count l.tree.now.program.now - l.i) + 1

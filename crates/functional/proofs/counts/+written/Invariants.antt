@@ -4,4 +4,4 @@ use Rattle.model.specs.Program.{node_count}
 use Rattle.functional.proofs.counts.+written.Given as goal
 
 abbrev pub decreases-written : goal.decreases-written
-decreases-written l = node_count l.program.now - l.i
+decreases-written l = node_count l.tree.now.program.now - l.i

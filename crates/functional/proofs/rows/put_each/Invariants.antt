@@ -17,7 +17,3 @@ invariant-loop-x l =
     × (l.rest ≡ later l.x l.set)
     × (length l.cells ≡ length l.initial.cells)
     × (l.at ≤ l.k + l.x)
-    × (l.x ≤ 16)
-
-abbrev pub decreases-loop-x : goal.decreases-loop-x
-decreases-loop-x l = 16 - l.x

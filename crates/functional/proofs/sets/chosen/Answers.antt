@@ -15,10 +15,9 @@ loop-x-preserved c =
     let args = c.args in
     let loop = c.loop-x in
     let inv = loop.invariant in
-    let test = c.loop-x-test.true in
     let F : ℕ → ℕ = λ y. pick (has args.set y) (wired args.us.of y) (wired args.ws.of y) in
     let v : c.picked.result ≡ F loop.x = rw (has-later loop.x args.set inv.1) c.picked.ensures in
-    (upto_next F _ _ _ test v inv.0, later-next _ _ inv.1)
+    (upto_next F _ _ _ (omega arith) v inv.0, later-next _ _ inv.1)
 
 pub returns : goal.returns
-returns c = upto-end _ _ _ (omega (arith, c.loop-x-test.false)) c.loop-x.invariant.0
+returns c = upto-end _ _ _ (omega arith) c.loop-x.invariant.0

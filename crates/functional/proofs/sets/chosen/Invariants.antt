@@ -1,6 +1,5 @@
 -- `sets::chosen` meets its contract. Assumes nothing.
 use mathlib.Core.Path.{◌≡◌}
-use Prim.Native.Nat.{◌-◌}
 use Rattle.model.specs.Word.{pick}
 use Rattle.functional.specs.Sets.{has, wired}
 use Rattle.functional.proofs.Bits.{later, Upto}
@@ -9,6 +8,3 @@ use Rattle.functional.proofs.sets.chosen.Given as goal
 abbrev pub invariant-loop-x : goal.invariant-loop-x
 invariant-loop-x l =
     Upto (λ y. pick (has l.set y) (wired l.theirs y) (wired l.ours y)) l.of l.x × (l.rest ≡ later l.x l.set)
-
-abbrev pub decreases-loop-x : goal.decreases-loop-x
-decreases-loop-x l = 16 - l.x

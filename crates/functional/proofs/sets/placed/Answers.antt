@@ -14,11 +14,10 @@ loop-x-preserved c =
     let args = c.args in
     let loop = c.loop-x in
     let inv = loop.invariant in
-    let test = c.loop-x-test.true in
     let F = placed (has args.set) args.from (wired args.ws.of) in
     let v : c.picked.result ≡ F loop.x = rw (has-later loop.x args.set inv.1, ← inv.2) c.picked.ensures in
     let r = rank-bit args.set loop.x inv.1 in
-    (upto_next F _ _ _ test v inv.0, later-next _ _ inv.1, omega (arith, inv.2, r), omega (arith, inv.3))
+    (upto_next F _ _ _ (omega arith) v inv.0, later-next _ _ inv.1, omega (arith, inv.2, r), omega (arith, inv.3))
 
 pub returns : goal.returns
-returns c = upto-end _ _ _ (omega (arith, c.loop-x-test.false)) c.loop-x.invariant.0
+returns c = upto-end _ _ _ (omega arith) c.loop-x.invariant.0

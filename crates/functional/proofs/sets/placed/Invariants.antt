@@ -1,6 +1,6 @@
 -- `sets::placed` meets its contract. Assumes nothing.
 use mathlib.Core.Path.{◌≡◌}
-use Prim.Native.Nat.{◌+◌, ◌-◌, ◌≤◌}
+use Prim.Native.Nat.{◌+◌, ◌≤◌}
 use Rattle.model.specs.Functional.{rank, placed}
 use Rattle.functional.specs.Sets.{has, wired}
 use Rattle.functional.proofs.Bits.{later, Upto}
@@ -9,6 +9,3 @@ use Rattle.functional.proofs.sets.placed.Given as goal
 abbrev pub invariant-loop-x : goal.invariant-loop-x
 invariant-loop-x l =
     Upto (placed (has l.set) l.from (wired l.ours)) l.of l.x × (l.rest ≡ later l.x l.set) × (l.at ≡ l.from + rank (has l.set) l.x) × (l.at ≤ l.from + l.x)
-
-abbrev pub decreases-loop-x : goal.decreases-loop-x
-decreases-loop-x l = 16 - l.x

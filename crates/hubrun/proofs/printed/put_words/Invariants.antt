@@ -1,7 +1,7 @@
 -- `printed::put_words` meets its contract. The invariant: putting in the line of the words that are left comes out as putting in the whole line.
 -- Assumes nothing.
 use mathlib.Core.Path.{◌≡◌}
-use Prim.Native.Nat.{◌+◌, ◌-◌, ◌≤◌}
+use Prim.Native.Nat.{◌+◌}
 use lib.ListN.{length}
 use lib.Seq.{sets}
 use Rattle.hubrun.proofs.Lines.{line_from}
@@ -9,10 +9,5 @@ use Rattle.hubrun.proofs.printed.put_words.Given as goal
 
 abbrev pub invariant-loop-k : goal.invariant-loop-k
 invariant-loop-k l =
-    (l.k ≤ 15)
-    × (length l.out ≡ length l.initial.out)
-    × (l.at + length (line_from l.words 0) ≡ l.next + length (line_from l.words l.k))
+    (l.at + length (line_from l.words 0) ≡ l.next + length (line_from l.words l.k))
     × (sets l.initial.out l.at (line_from l.words 0) ≡ sets l.out l.next (line_from l.words l.k))
-
-abbrev pub decreases-loop-k : goal.decreases-loop-k
-decreases-loop-k l = 15 - l.k

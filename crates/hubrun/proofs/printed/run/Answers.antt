@@ -15,11 +15,7 @@ start_words-words-requires c = simp length-take (omega (arith, c.requires))
 
 pub returns : goal.returns
 returns c =
-    let call = c in
-    let start = call in
-    let input = start.args.input.now in
+    let input = c.args.input.now in
     let e : take (length input - 36) (drop 36 input) ≡ drop 36 input = take_all (length input - 36) (drop 36 input) (simp length-drop (omega arith)) in
-    let options = call in
-    let words = options.start_words-words.ensures in
-    let told = rw options.defaults-options.ensures at call.run_program.ensures.answer in
-    run-told input (replicate 6656 0) (replicate 41480 0) e options.get32-budget.ensures words told
+    let told = rw c.defaults.ensures at c.run_program.ensures.answer in
+    run-told input (replicate 6656 0) (replicate 41480 0) e c.get32-budget.ensures c.start_words-words.ensures told

@@ -10,4 +10,4 @@ returns-then-input-lt36 c =
 pub returns : goal.returns
 returns c =
     let input = c.args.input.now in
-    rw (long-text input c.if-input-lt36.false, ← c.run-answer.ensures) c.answer_text.ensures
+    rw (long-text input c.if-input-lt36.false, ← c.run.ensures) c.answer_text.ensures

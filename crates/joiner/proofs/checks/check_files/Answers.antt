@@ -1,90 +1,48 @@
--- `checks::check_files` meets its contract. The invariant: the search from part 0 goes on at part i, and the parts that are left pass their own checks.
--- Assumes nothing.
-use mathlib.Core.Path.{ap, ◌∙◌}
-use mathlib.Core.Bool.{Bool, not}
-use Prim.Native.Nat.{◌<◌}
-use native.Mathlib.Omega.{arith}
-use Rattle.model.specs.Refusals.{fault_if}
+-- `checks::check_files` meets its contract. The invariant: the search from part 0 goes on at part i, and the parts that are left pass their own checks. Assumes nothing.
+use Rattle.std.proofs.Common.{◌∙◌, ap, inl, arith, Bool, not}
+use Rattle.model.specs.Refusals.{refuse, fault_if}
 use Rattle.laws.specs.Refusals.Search.{searched-none, fault-here, fault-next, faults-end}
-use Rattle.joiner.specs.Cuts.{part_count}
-use Rattle.joiner.proofs.Refusing.{standing-first, standing-next, middle-within, rest-own, here-accepted, files-here}
+use Rattle.joiner.specs.Lent.{parts_left}
+use Rattle.joiner.proofs.Lent.{few-parts}
+use Rattle.joiner.proofs.Refusing.{standing-first, standing-next, more, passed, rest-own, here-accepted, files-here}
 use Rattle.joiner.proofs.checks.check_files.Goals as goal
+
+pub loop-i-init-derived : goal.loop-i-init-derived
+loop-i-init-derived c =
+    let ps = c.args.parts in
+    let items = c.enumerate-i-items.ensures in
+    let few = few-parts ps.lengths.now ps.pulses.now ps.bytes.now c.ranges.parts.0 in
+    rw (c.into_iter-i-iterator.ensures.into_iter_gives, items.count, items.source) ((tt, tt, inl (omega (arith, few))), tt)
 
 pub loop-i-init : goal.loop-i-init
 loop-i-init c =
-    let pre = c.requires in
-    (standing-first _ _ _, pre, searched-none _ _)
-
-pub find-found-requires : goal.find-found-requires
-find-found-requires c =
-    (omega (arith, c.count-n.ensures, c.loop-i-test.true), c.loop-i.invariant.0.within)
-
-pub slice_bounds-is_own-count : goal.slice_bounds-is_own-count
-slice_bounds-is_own-count c =
-    c.find-found.ensures.begins
-
-pub slice_bounds-is_own-start : goal.slice_bounds-is_own-start
-slice_bounds-is_own-start c =
-    c.find-found.ensures.begins
-
-pub slice_bounds-is_own-end : goal.slice_bounds-is_own-end
-slice_bounds-is_own-end c =
-    let args = c.args in
-    middle-within c.find-found.ensures args.pulses.now
-
-pub slice_bounds-is_own-count-in-loop-i : goal.slice_bounds-is_own-count-in-loop-i
-slice_bounds-is_own-count-in-loop-i c =
-    let find = c.find-found in
-    find.ensures.goes
-
-pub slice_bounds-is_own-start-in-loop-i : goal.slice_bounds-is_own-start-in-loop-i
-slice_bounds-is_own-start-in-loop-i c =
-    let find = c.find-found in
-    find.ensures.goes
-
-pub slice_bounds-is_own-end-in-loop-i : goal.slice_bounds-is_own-end-in-loop-i
-slice_bounds-is_own-end-in-loop-i c =
-    let find = c.find-found in
-    find.ensures.ends
+    let ps = parts_left c.args.parts in
+    let items = c.enumerate-i-items.ensures in
+    rw (c.into_iter-i-iterator.ensures.into_iter_gives, items.count, items.source) (standing-first ps, searched-none _ _, c.requires)
 
 pub is_own-requires : goal.is_own-requires
-is_own-requires c =
-    let args = c.args in
-    let pulse-at = c.pulse_at in
-    let find = c.find-found in
-    let loop = c.loop-i in
-    rw (c.beside-own.ensures, pulse-at.ensures) (here-accepted find.ensures args.pulses.now args.options loop.invariant.1)
+is_own-requires c = rw c.beside.ensures (here-accepted c.args.options c.in-Some.ensures.steps.0 c.loop-i.invariant.2)
 
 pub returns-then-not-is_own : goal.returns-then-not-is_own
 returns-then-not-is_own c =
-    let args = c.args in
-    let beside = c.beside-own in
-    let pulse-at = c.pulse_at in
-    let loop = c.loop-i in
-    let count = c.count-n in
-    let loop-test = c.loop-i-test in
-    let find = c.find-found in
-    let told = rw (beside.ensures, pulse-at.ensures) at c.is_own.ensures in
-    c.refused.ensures
-    ∙ fault-here loop.invariant.2 31 (omega (arith, count.ensures, loop-test.true)) (omega arith)
-    (files-here find.ensures args.pulses.now args.options loop.invariant.0 told ∙ ap (λ (b : Bool). fault_if (not b) 31) c.if-not-is_own.true)
+    let known = c.loop-i.invariant in
+    let steps = c.in-Some.ensures.steps in
+    let told = rw c.beside.ensures at c.is_own.ensures in
+    c.refuse.ensures ∙ ap (refuse 31) steps.1
+    ∙ fault-here known.1 31 (more known.0 steps.0) (omega arith)
+    (files-here known.0 steps.0 c.args.options told ∙ ap (λ (b : Bool). fault_if (not b) 31) c.if-not-is_own.true)
 
 pub loop-i-preserved : goal.loop-i-preserved
 loop-i-preserved c =
-    let args = c.args in
-    let loop = c.loop-i in
-    let beside = c.beside-own in
-    let pulse-at = c.pulse_at in
-    let count = c.count-n in
-    let loop-test = c.loop-i-test in
-    let find = c.find-found in
-    let told = rw (beside.ensures, pulse-at.ensures) at c.is_own.ensures in
-    let more : loop.i < part_count args.lengths.now = omega (arith, count.ensures, loop-test.true) in (
-      standing-next find.ensures args.pulses.now loop.invariant.0 more,
-      rest-own find.ensures args.pulses.now args.options loop.invariant.1,
-      fault-next loop.invariant.2 more (files-here find.ensures args.pulses.now args.options loop.invariant.0 told ∙ ap (λ (b : Bool). fault_if (not b) 31) c.if-not-is_own.false),
+    let known = c.loop-i.invariant in
+    let steps = c.in-Some.ensures.steps in
+    let told = rw c.beside.ensures at c.is_own.ensures in
+    rw steps.2 (
+      standing-next known.0 steps.0,
+      fault-next known.1 (more known.0 steps.0)
+          (files-here known.0 steps.0 c.args.options told ∙ ap (λ (b : Bool). fault_if (not b) 31) c.if-not-is_own.false),
+      rest-own c.args.options steps.0 known.2,
     )
 
 pub returns : goal.returns
-returns c =
-    faults-end c.loop-i.invariant.2 (omega (arith, c.count-n.ensures, c.loop-i-test.false))
+returns c = let known = c.loop-i.invariant in faults-end known.1 (passed known.0 c.in-None.ensures.steps.0.0)

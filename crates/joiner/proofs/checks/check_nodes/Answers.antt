@@ -1,52 +1,42 @@
 -- `checks::check_nodes` meets its contract. The invariant: the search from part 0 goes on at part i, and so many nodes are before it. Assumes nothing.
-use mathlib.Core.Path.{◌∙◌}
-use native.Mathlib.Omega.{arith}
+use Rattle.std.proofs.Common.{◌∙◌, ap, inl, arith}
+use Rattle.model.specs.Refusals.{refuse}
 use Rattle.laws.specs.Refusals.Search.{searched-none, fault-here, fault-next, faults-end}
-use Rattle.joiner.proofs.Refusing.{nodes-first, nodes-next, too_many, not-many}
+use Rattle.joiner.specs.Lent.{parts_left}
+use Rattle.joiner.proofs.Lent.{few-parts}
+use Rattle.joiner.proofs.Refusing.{standing-first, standing-next, more, passed, nodes-first, nodes-next, too_many, not-many}
 use Rattle.joiner.proofs.checks.check_nodes.Goals as goal
+
+pub loop-i-init-derived : goal.loop-i-init-derived
+loop-i-init-derived c =
+    let ps = c.args.parts in
+    let items = c.enumerate-i-items.ensures in
+    let few = few-parts ps.lengths.now ps.pulses.now ps.bytes.now c.ranges.parts.0 in
+    rw (c.into_iter-i-iterator.ensures.into_iter_gives, items.count, items.source) ((tt, tt, inl (omega (arith, few))), tt)
 
 pub loop-i-init : goal.loop-i-init
 loop-i-init c =
-    (omega arith, omega arith, nodes-first _ _ _, searched-none _ _)
-
-pub find-found-requires : goal.find-found-requires
-find-found-requires c =
-    (omega (arith, c.count-n.ensures, c.loop-i-test.true), c.loop-i.invariant.0)
-
-pub overflow_sub-nodes : goal.overflow_sub-nodes
-overflow_sub-nodes c =
-    c.find-found.ensures.begins
-
-pub overflow_add-nodes : goal.overflow_add-nodes
-overflow_add-nodes c =
-    let loop = c.loop-i in
-    omega (arith, loop.invariant.1)
+    let ps = parts_left c.args.parts in
+    let items = c.enumerate-i-items.ensures in
+    rw (c.into_iter-i-iterator.ensures.into_iter_gives, items.count, items.source) (standing-first ps, searched-none _ _, omega arith, nodes-first ps)
 
 pub returns-then-nodes-gt-MOST_NODES : goal.returns-then-nodes-gt-MOST_NODES
 returns-then-nodes-gt-MOST_NODES c =
-    let loop = c.loop-i in
-    let count = c.count-n in
-    let loop-test = c.loop-i-test in
-    let find = c.find-found in
-    c.refused.ensures
-    ∙ fault-here loop.invariant.3 29 (omega (arith, count.ensures, loop-test.true)) (omega arith) (too_many find.ensures loop.invariant.2 c.if-nodes-gt-MOST_NODES.true)
-
-pub overflow_add-before : goal.overflow_add-before
-overflow_add-before c =
-    omega (arith, c.if-nodes-gt-MOST_NODES.false)
+    let known = c.loop-i.invariant in
+    let steps = c.in-Some.ensures.steps in
+    c.refuse.ensures ∙ ap (refuse 29) steps.1
+    ∙ fault-here known.1 29 (more known.0 steps.0) (omega arith) (too_many steps.0 known.3 c.if-nodes-gt-MOST_NODES.true)
 
 pub loop-i-preserved : goal.loop-i-preserved
 loop-i-preserved c =
-    let loop = c.loop-i in
-    let count = c.count-n in
-    let loop-test = c.loop-i-test in
-    let found = c.find-found.ensures in (
-      found.ends,
+    let known = c.loop-i.invariant in
+    let steps = c.in-Some.ensures.steps in
+    rw steps.2 (
+      standing-next known.0 steps.0,
+      fault-next known.1 (more known.0 steps.0) (not-many steps.0 known.3 c.if-nodes-gt-MOST_NODES.false),
       omega (arith, c.if-nodes-gt-MOST_NODES.false),
-      nodes-next found loop.invariant.2,
-      fault-next loop.invariant.3 (omega (arith, count.ensures, loop-test.true)) (not-many found loop.invariant.2 c.if-nodes-gt-MOST_NODES.false),
+      nodes-next steps.0 known.3,
     )
 
 pub returns : goal.returns
-returns c =
-    faults-end c.loop-i.invariant.3 (omega (arith, c.count-n.ensures, c.loop-i-test.false))
+returns c = let known = c.loop-i.invariant in faults-end known.1 (passed known.0 c.in-None.ensures.steps.0.0)

@@ -1,39 +1,44 @@
 -- `checks::check_pulses` meets its contract. The invariant: the search from part 0 goes on at part i. Assumes nothing.
-use mathlib.Core.Path.{◌∙◌}
-use Prim.Native.Nat.{◌<◌}
-use native.Mathlib.Omega.{arith}
+use Rattle.std.proofs.Common.{◌∙◌, ap, inl, arith}
+use Rattle.model.specs.Refusals.{refuse}
 use Rattle.laws.specs.Refusals.Search.{searched-none, fault-here, fault-next, faults-end}
-use Rattle.joiner.specs.Cuts.{part_count}
-use Rattle.joiner.proofs.Refusing.{pulses-differ, pulses-agree}
+use Rattle.joiner.specs.Lent.{parts_left}
+use Rattle.joiner.proofs.Lent.{few-parts}
+use Rattle.joiner.proofs.Refusing.{standing-first, standing-next, more, passed, pulses-differ, pulses-agree}
 use Rattle.joiner.proofs.checks.check_pulses.Goals as goal
+
+pub loop-i-init-derived : goal.loop-i-init-derived
+loop-i-init-derived c =
+    let ps = c.args.parts in
+    let items = c.enumerate-i-items.ensures in
+    let few = few-parts ps.lengths.now ps.pulses.now ps.bytes.now c.ranges.parts.0 in
+    rw (c.into_iter-i-iterator.ensures.into_iter_gives, items.count, items.source) ((tt, tt, inl (omega (arith, few))), tt)
 
 pub loop-i-init : goal.loop-i-init
 loop-i-init c =
-    searched-none _ _
+    let ps = parts_left c.args.parts in
+    let items = c.enumerate-i-items.ensures in
+    rw (c.into_iter-i-iterator.ensures.into_iter_gives, items.count, items.source) (standing-first ps, searched-none _ _)
 
-pub returns-then-pulse_at-pulse : goal.returns-then-pulse_at-pulse
-returns-then-pulse_at-pulse c =
-    let args = c.args in
-    let loop = c.loop-i in
-    let count = c.count-n in
-    let loop-test = c.loop-i-test in
-    let pulse-at = c.pulse_at-pulse in
-    let more : loop.i < part_count args.lengths.now = omega (arith, count.ensures, loop-test.true) in
-    c.refused.ensures
-    ∙ fault-here loop.invariant 30 more (omega arith)
-    (pulses-differ args.lengths.now args.pulses.now args.parts.now loop.i more c.pulse_at.ensures pulse-at.ensures c.if-pulse_at-pulse.true)
+pub returns-then-part-pulse : goal.returns-then-part-pulse
+returns-then-part-pulse c =
+    let ps = c.args.parts in
+    let known = c.loop-i.invariant in
+    let steps = c.in-Some.ensures.steps in
+    c.refuse.ensures ∙ ap (refuse 30) steps.1
+    ∙ fault-here known.1 30 (more known.0 steps.0) (omega arith)
+    (pulses-differ ps.lengths.now ps.pulses.now ps.bytes.now known.0 steps.0 c.pulse-pulse.ensures c.if-part-pulse.true)
 
 pub loop-i-preserved : goal.loop-i-preserved
 loop-i-preserved c =
-    let args = c.args in
-    let loop = c.loop-i in
-    let count = c.count-n in
-    let pulse-at = c.pulse_at-pulse in
-    let more : loop.i < part_count args.lengths.now = omega (arith, count.ensures, c.loop-i-test.true) in
-    fault-next loop.invariant more
-    (pulses-agree args.lengths.now args.pulses.now args.parts.now loop.i more c.pulse_at.ensures pulse-at.ensures c.if-pulse_at-pulse.false)
+    let ps = c.args.parts in
+    let known = c.loop-i.invariant in
+    let steps = c.in-Some.ensures.steps in
+    rw steps.2 (
+      standing-next known.0 steps.0,
+      fault-next known.1 (more known.0 steps.0)
+          (pulses-agree ps.lengths.now ps.pulses.now ps.bytes.now known.0 steps.0 c.pulse-pulse.ensures c.if-part-pulse.false),
+    )
 
 pub returns : goal.returns
-returns c =
-    let count = c.count-n in
-    faults-end c.loop-i.invariant (omega (arith, count.ensures, c.loop-i-test.false))
+returns c = let known = c.loop-i.invariant in faults-end known.1 (passed known.0 c.in-None.ensures.steps.0.0)

@@ -1,12 +1,13 @@
 -- `checks::check_pulses` meets its contract. The invariant: the search from part 0 goes on at part i. Assumes nothing.
-use Prim.Native.Nat.{◌-◌}
-use Rattle.model.specs.PartCalls.{parts_in, pulse_fault}
+use Rattle.std.proofs.Common.{length}
+use Rattle.model.specs.PartCalls.{pulse_fault}
 use Rattle.laws.specs.Refusals.Search.{Searched}
-use Rattle.joiner.specs.Cuts.{part_count}
+use Rattle.joiner.specs.Lent.{parts_left}
+use Rattle.joiner.proofs.Refusing.{Standing}
 use Rattle.joiner.proofs.checks.check_pulses.Given as goal
 
 abbrev pub invariant-loop-i : goal.invariant-loop-i
-invariant-loop-i l = Searched (pulse_fault (parts_in l.lengths l.pulses l.parts)) (part_count l.lengths) l.i
-
-abbrev pub decreases-loop-i : goal.decreases-loop-i
-decreases-loop-i l = l.n - l.i
+invariant-loop-i l =
+    let ps = parts_left l.fn.parts in
+    let at = l.i-iterator in
+    Standing ps at.count (parts_left at.iter) × Searched (pulse_fault ps) (length ps) at.count

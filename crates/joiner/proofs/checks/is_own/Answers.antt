@@ -12,12 +12,11 @@ list_accepted-made-requires c =
 
 pub is_file_of-requires : goal.is_file_of-requires
 is_file_of-requires c =
-    let start = c in
     let list = c.list_accepted-made in
-    let options = start.args.options in
-    let program = start.args.program.now in
-    let accepted = start.requires.0 in
-    (start.requires.1, list-room options program list.ensures accepted list.auto.cells, some-made options program list.ensures accepted, (accepted-pulse options program accepted).0)
+    let options = c.args.options in
+    let program = c.args.program.now in
+    let accepted = c.requires.0 in
+    (c.requires.1, list-room options program list.ensures accepted list.auto.cells, some-made options program list.ensures accepted, (accepted-pulse options program accepted).0)
 
 pub returns : goal.returns
 returns c =

@@ -39,11 +39,10 @@ overflow_add-result-2 c =
 
 pub returns : goal.returns
 returns c =
-    let start = c in
     let put-moved = c.put_moved in
     let put-moved2 = c.put_moved-2 in
     let new-number = c.new_number-wire in
     let get16 = c.get16-finish in
-    put_in start.requires start.args.cells.now put-moved.ensures put-moved2.ensures
-    (new-number.ensures (subst (λ (k : ℕ). k ≤ 16384) (sym get16.ensures) (finish-low start.requires))
-    ∙ ap (moves (stand_at start.args.own start.args.memory start.args.at)) get16.ensures)
+    put_in c.requires c.args.cells.now put-moved.ensures put-moved2.ensures
+    (new-number.ensures (subst (λ (k : ℕ). k ≤ 16384) (sym get16.ensures) (finish-low c.requires))
+    ∙ ap (moves (stand_at c.args.own c.args.memory c.args.at)) get16.ensures)

@@ -4,9 +4,8 @@ use Rattle.joiner.proofs.moving.rewired.Goals as goal
 
 pub returns : goal.returns
 returns c =
-    let start = c in
-    let low = start.requires.1 in
-    c.rewired.ensures (moves start.args.at) (λ e. c.new_number-a.ensures (low.first e)) (λ e. c.new_number-b.ensures (low.second e))
+    let low = c.requires.1 in
+    c.rewired.ensures (moves c.args.at) (λ e. c.new_number-a.ensures (low.first e)) (λ e. c.new_number-b.ensures (low.second e))
 
 pub new_number-a-requires : goal.new_number-a-requires
 new_number-a-requires c = c.requires.0

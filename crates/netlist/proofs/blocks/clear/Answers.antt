@@ -1,22 +1,12 @@
--- `blocks::clear` meets its contract. The invariant: clearing the rest comes out as at the start. Assumes nothing.
-use Rattle.std.proofs.Common.{sym, refl, ◌∙◌, length-set}
-use Rattle.netlist.proofs.Putting.{clear-more, clear-done}
+-- `blocks::clear` meets its contract. Assumes nothing.
+use Rattle.std.proofs.Common.{◌≡◌, ◌-◌, length, take, drop, replicate, arith, length-take, length-drop}
+use Rattle.std.proofs.lemmas.List.{length-replicate}
+use Rattle.netlist.proofs.Putting.{part-sets}
 use Rattle.netlist.proofs.blocks.clear.Goals as goal
 
-pub loop-j-init : goal.loop-j-init
-loop-j-init c = (refl, refl)
-
-pub loop-j-preserved : goal.loop-j-preserved
-loop-j-preserved c =
-    let loop = c.loop-j in (
-      simp length-set loop.invariant.0,
-      loop.invariant.1 ∙ clear-more loop.d loop.j c.args.end c.loop-j-test.true,
-    )
-
-pub shape_of-d : goal.shape_of-d
-shape_of-d c = c.loop-j.invariant.0
-
-pub returns : goal.returns
-returns c =
-    let loop = c.loop-j in
-    sym (loop.invariant.1 ∙ clear-done loop.d loop.j c.args.end c.loop-j-test.false)
+pub returns-then-i-end : goal.returns-then-i-end
+returns-then-i-end c =
+    let args = c.args in
+    let n = args.end - args.i in
+    let l : length (take n (drop args.i args.d.now)) ≡ n = simp (length-take, length-drop) (omega arith) in
+    rw (c.fill.ensures.after (λ y e. e), l) (part-sets args.d.now (replicate n 0) args.i n (length-replicate n 0) (omega arith))

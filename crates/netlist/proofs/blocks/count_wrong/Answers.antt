@@ -5,5 +5,4 @@ use Rattle.netlist.proofs.blocks.count_wrong.Goals as goal
 
 pub returns : goal.returns
 unfolding count_wrong
-returns c =
-    refl
+returns c = rw c.blocks_for.ensures refl

@@ -6,5 +6,5 @@ use Rattle.netlist.proofs.cells.next_offset.Goals as goal
 pub returns-then-next-eq0 : goal.returns-then-next-eq0
 returns-then-next-eq0 c = omega (arith, after_block c.args.i c.if-next-eq0.true)
 
-pub returns : goal.returns
-returns c = omega (arith, after-cell c.args.i c.if-next-eq0.false)
+pub returns-else-next-eq0 : goal.returns-else-next-eq0
+returns-else-next-eq0 c = omega (arith, after-cell c.args.i c.if-next-eq0.false)

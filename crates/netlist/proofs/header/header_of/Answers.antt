@@ -14,6 +14,3 @@ pulse_of-pulse-requires c = omega (arith, (accepted-whole c.args.file.now c.requ
 
 pub overflow_cast-pulse : goal.overflow_cast-pulse
 overflow_cast-pulse c = omega (arith, c.pulse_of-pulse.ensures, (accepted-pulse c.args.file.now c.requires).1)
-
-pub returns : goal.returns
-returns c = cc

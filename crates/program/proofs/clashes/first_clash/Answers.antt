@@ -22,7 +22,7 @@ next-second-requires c =
     omega (arith, pre.readable.short)
 
 pub loop-x-init : goal.loop-x-init
-loop-x-init c = (omega arith, none-start _ _ _ _)
+loop-x-init c = none-start _ _ _ _
 
 pub overflow_cast-n : goal.overflow_cast-n
 overflow_cast-n c =
@@ -44,11 +44,7 @@ crosses-requires-in-loop-x c =
 
 pub loop-x-preserved : goal.loop-x-preserved
 loop-x-preserved c =
-    let loop = c.loop-x in
-    let loop-test = c.loop-x-test in (
-      omega (arith, loop-test.true),
-      none-next _ _ _ _ _ loop.invariant.1 (sym (ap₂ ◌||◌ c.crosses.ensures c.crosses-in-loop-x.ensures) ∙ c.if-crosses.false),
-    )
+    none-next _ _ _ _ _ c.loop-x.invariant (sym (ap₂ ◌||◌ c.crosses.ensures c.crosses-in-loop-x.ensures) ∙ c.if-crosses.false)
 
 pub nodes-preserved-then-node-eq20 : goal.nodes-preserved-then-node-eq20
 nodes-preserved-then-node-eq20 c =
@@ -59,11 +55,11 @@ nodes-preserved-then-node-eq20 c =
     let loop = c.loop-x in
     let most-of = c.most_of-most in
     let next = c.next-second in
-    let e : loop.x ≡ most-of.result = omega (arith, loop.invariant.0, c.loop-x-test.false) in
+    let e : loop.x ≡ most-of.result = omega (arith, c.loop-x-test.false) in
     let all = e ∙ most-of.ensures ∙ ap (λ (n : ℕ). pick start.args.shared n 20) (sym (count-bodies _ _ pre.readable 1)) in
     fault-next nodes.invariant nodes-test.true
     (clash-fault _ _ _ _ false
-    (crosses-none _ _ _ _ _ all loop.invariant.1
+    (crosses-none _ _ _ _ _ all loop.invariant
     ∙ clash-par _ _ _ _ nodes-test.true _ c.read_node-node.ensures c.if-node-eq20.true _ (past-trees _ _ _ (pre.laid.each _) _ next.ensures)))
 
 pub nodes-preserved : goal.nodes-preserved
@@ -83,7 +79,7 @@ returns-then-i-count c =
     elim c.nodes-test.branch [
       | else-nodes-test w ↦ absurd (omega (arith, w.nodes-test.false, c.if-i-count.true))
       | then-nodes-test+then-node-eq20+then-loop-x-test+then-crosses w ↦
-          c.refused.ensures
+          c.refuse.ensures
           ∙ ap (λ (n : ℕ). refuse n nodes.i) clash-number.ensures
           ∙ fault-here nodes.invariant (pick start.args.shared 25 8) w.nodes-test.true (some_number start.args.shared)
           (clash-fault _ _ _ _ true

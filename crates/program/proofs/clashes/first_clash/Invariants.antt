@@ -8,14 +8,11 @@ use Rattle.program.proofs.clashes.first_clash.Given as goal
 
 abbrev pub invariant-loop-x : goal.invariant-loop-x
 invariant-loop-x l =
-    (l.x ≤ l.most) × none_below (program_of 1 l.procedures l.program).bodies l.shared (stmt_at l.program (l.i + 1)) (stmt_at l.program l.second) l.x
-
-abbrev pub decreases-loop-x : goal.decreases-loop-x
-decreases-loop-x l = l.most - l.x
+    none_below (program_of 1 l.procedures l.tree.program.now).bodies l.shared (stmt_at l.tree.program.now (l.i + 1)) (stmt_at l.tree.program.now l.second) l.x
 
 abbrev pub invariant-nodes : goal.invariant-nodes
 invariant-nodes l =
-    Searched (clash_fault (program_of 1 l.procedures l.program).bodies l.shared l.program) (node_count l.program) l.i
+    Searched (clash_fault (program_of 1 l.procedures l.tree.program.now).bodies l.shared l.tree.program.now) (node_count l.tree.program.now) l.i
 
 abbrev pub decreases-nodes : goal.decreases-nodes
 decreases-nodes l = l.count - l.i

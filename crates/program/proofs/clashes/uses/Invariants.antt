@@ -9,7 +9,4 @@ use Rattle.program.proofs.clashes.uses.Given as goal
 
 abbrev pub invariant-loop-k : goal.invariant-loop-k
 invariant-loop-k l =
-    any_marked l.mark (λ p. get_or l.bodies p false) (nodes_from l.program l.i (l.end - l.i)) ≡ any_marked l.mark (λ p. get_or l.bodies p false) (nodes_from l.program l.k (l.end - l.k))
-
-abbrev pub decreases-loop-k : goal.decreases-loop-k
-decreases-loop-k l = l.end - l.k
+    any_marked l.mark (λ p. get_or l.bodies p false) (nodes_from l.tree.program.now l.i (l.end - l.i)) ≡ any_marked l.mark (λ p. get_or l.bodies p false) (nodes_from l.tree.program.now l.k (l.end - l.k))

@@ -24,9 +24,9 @@ loop-i-init c = searched-none _ _
 pub returns-then-added : goal.returns-then-added
 returns-then-added c =
     let loop-test = c.loop-i-test in
-    let read-node = c.read_node-node in
+    let read-node = c.read_node in
     let loop = c.loop-i in
-    c.refused.ensures
+    c.refuse.ensures
     ∙ fault-here loop.invariant 28 loop-test.true (omega arith)
     (is-added _ _ (ap (λ (a : Node). added a.kind) (sym read-node.ensures) ∙ sym c.added.ensures ∙ c.if-added.true))
 
@@ -35,7 +35,7 @@ loop-i-preserved c =
     let loop = c.loop-i in
     let loop-test = c.loop-i-test in
     fault-next loop.invariant loop-test.true
-    (not-added _ _ (ap (λ (a : Node). added a.kind) (sym c.read_node-node.ensures) ∙ sym c.added.ensures ∙ c.if-added.false))
+    (not-added _ _ (ap (λ (a : Node). added a.kind) (sym c.read_node.ensures) ∙ sym c.added.ensures ∙ c.if-added.false))
 
 pub returns : goal.returns
 returns c = faults-end c.loop-i.invariant c.loop-i-test.false

@@ -1,5 +1,5 @@
 -- Refusals 2 to 4: the answer from node 0 is the answer from node i.
-use Prim.Native.Nat.{ℕ, ◌-◌}
+use Prim.Native.Nat.{ℕ}
 use Rattle.model.specs.Program.{node_at, node_count}
 use Rattle.model.specs.ProgramChecks.{node_fault}
 use Rattle.laws.specs.Refusals.Search.{Searched}
@@ -8,6 +8,3 @@ use Rattle.program.proofs.reading.first_fault.Given as goal
 abbrev pub invariant-loop-i : goal.invariant-loop-i
 invariant-loop-i l =
     Searched (λ (j : ℕ). node_fault (node_at l.program j)) (node_count l.program) l.i
-
-abbrev pub decreases-loop-i : goal.decreases-loop-i
-decreases-loop-i l = l.count - l.i

@@ -1,6 +1,6 @@
 -- Refusals 5 and 6: the answer from node 0 is the answer from node i, with so many expressions and statements still to be read.
 use mathlib.Core.Path.{◌≡◌}
-use Prim.Native.Nat.{◌+◌, ◌-◌, ◌*◌, ◌≤◌}
+use Prim.Native.Nat.{◌+◌, ◌*◌, ◌≤◌}
 use Rattle.model.specs.Program.{nodes_at}
 use Rattle.model.specs.ProgramChecks.{reading, root_sorts}
 use Rattle.program.proofs.Misread.{wanted}
@@ -8,7 +8,4 @@ use Rattle.program.proofs.reading.first_misread.Given as goal
 
 abbrev pub invariant-loop-i : goal.invariant-loop-i
 invariant-loop-i l =
-    (l.i ≤ l.count) × (l.exprs + l.stmts ≤ 510 * l.i + 9) × (reading (root_sorts l.procedures) 0 (nodes_at l.program 0) ≡ reading (wanted l.exprs l.stmts) l.i (nodes_at l.program l.i))
-
-abbrev pub decreases-loop-i : goal.decreases-loop-i
-decreases-loop-i l = l.count - l.i
+    (l.exprs + l.stmts ≤ 510 * l.i + 9) × (reading (root_sorts l.procedures) 0 (nodes_at l.program 0) ≡ reading (wanted l.exprs l.stmts) l.i (nodes_at l.program l.i))

@@ -4,6 +4,7 @@ use mathlib.Core.Bool.{true, false, ◌&&◌, not}
 use Prim.Native.Nat.{ℕ}
 use native.Mathlib.Omega.{arith}
 use lib.Dec.{eqb}
+use Rattle.laws.specs.Refusals.Laws.{handed_on}
 use Rattle.program.specs.Ends.{past-later}
 use Rattle.program.specs.Uses.{side-below}
 use Rattle.program.proofs.Loose.{Two, other-kinds, at_most, loose-exit, loose_none, loop-side, loose-loop, turns-side, loose-turns, if-two, pair-two, stops, passes}
@@ -19,7 +20,7 @@ pub returns-then-inside : goal.returns-then-inside
 returns-then-inside t c = loose-exit c.requires c.read_node-node.ensures c.if-kind-eq26.true _ true c.if-inside.true
 
 pub returns-else-inside : goal.returns-else-inside
-returns-else-inside t c = c.refused.ensures ∙ loose-exit c.requires c.read_node-node.ensures c.if-kind-eq26.true _ false c.if-inside.false
+returns-else-inside t c = c.refuse.ensures ∙ loose-exit c.requires c.read_node-node.ensures c.if-kind-eq26.true _ false c.if-inside.false
 
 pub overflow_add-i : goal.overflow_add-i
 overflow_add-i t c =
@@ -67,7 +68,7 @@ overflow_add-p t c =
     omega arith
 
 two : (t : ℕ) (c : Joined-kind-eq21 t)
-    → Two c.args.program.now c.args.ends.now c.args.i c.args.inside c.if-kind-eq21.p (c.args.inside && not (eqb c.read_node-node.result.kind 20))
+    → Two c.args.tree.now.program.now c.args.tree.now.ends.now c.args.i c.args.inside c.if-kind-eq21.p (c.args.inside && not (eqb c.read_node-node.result.kind 20))
 two t c =
     let S = c.requires in
     let e = c.read_node-node.ensures in
@@ -77,9 +78,9 @@ two t c =
           pair-two S e _ c.next-second.ensures _ _ refl (other-kinds c.if-kind.false).0 (at_most c.if-kind-gt21.false w.if-kind-eq21.false) _ w.p-is
     ]
 
-pub first_loose-one-requires : goal.first_loose-one-requires
-first_loose-one-requires t c =
-    let h = two t (goal.at.first_loose-one-requires t c).Joined-kind-eq21 in
+pub first_loose-requires-2 : goal.first_loose-requires-2
+first_loose-requires-2 t c =
+    let h = two t (goal.at.first_loose-requires-2 t c).Joined-kind-eq21 in
     let b = side-below _ _ _ h.one in
     (omega (arith, h.after), h.one)
 
@@ -88,18 +89,20 @@ next-requires t c =
     let pre = c.requires in
     omega (arith, pre.readable.short)
 
-pub first_loose-requires-in-Accepted : goal.first_loose-requires-in-Accepted
-first_loose-requires-in-Accepted t c =
-    let h = two t (goal.at.first_loose-requires-in-Accepted t c).Joined-kind-eq21 in
+pub first_loose-requires-3 : goal.first_loose-requires-3
+first_loose-requires-3 t c =
+    let h = two t (goal.at.first_loose-requires-3 t c).Joined-kind-eq21 in
     let e = c.next.ensures in
     let b = side-below _ _ _ h.one in
     let l = past-later _ _ _ (h.one.laid.each _) _ e in
     (omega (arith, h.after), h.other _ e)
 
-pub returns-in-Refused : goal.returns-in-Refused
-returns-in-Refused t c = sym (stops (two t (goal.at.returns-in-Refused t c).Joined-kind-eq21) c.first_loose-one.ensures _ refl c.in-Refused.is)
+pub returns-in_err-first_loose : goal.returns-in_err-first_loose
+returns-in_err-first_loose t c =
+    handed_on _ c.from_residual.ensures.1
+    ∙ sym (stops (two t (goal.at.returns-in_err-first_loose t c).Joined-kind-eq21) c.first_loose-2.ensures _ refl c.in_err-first_loose.was)
 
-pub returns-in-Accepted : goal.returns-in-Accepted
-returns-in-Accepted t c =
-    c.first_loose-in-Accepted.ensures
-    ∙ sym (passes (two t (goal.at.returns-in-Accepted t c).Joined-kind-eq21) c.first_loose-one.ensures _ c.next.ensures c.in-Accepted.is)
+pub returns : goal.returns
+returns t c =
+    c.first_loose-3.ensures
+    ∙ sym (passes (two t (goal.at.returns t c).Joined-kind-eq21) c.first_loose-2.ensures _ c.next.ensures c.in_ok-first_loose.was)

@@ -4,4 +4,4 @@ use Rattle.model.specs.Program.{node_count}
 use Rattle.program.proofs.roots.+first_loose.Given as goal
 
 abbrev pub decreases-first_loose : goal.decreases-first_loose
-decreases-first_loose l = node_count l.program.now - l.i
+decreases-first_loose l = node_count l.tree.now.program.now - l.i

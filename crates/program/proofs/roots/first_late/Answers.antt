@@ -19,7 +19,7 @@ returns-then-node-r c =
     let loop = c.loop-k in
     let next = c.next-end in
     let pre = c.requires in
-    c.refused.ensures
+    c.refuse.ensures
     ∙ late-here _ _ _ _ _ c.read_node-node.ensures loop-test.true c.if-node-r.true
     ∙ sym loop.invariant ∙ late-side _ _ _ _ pre _ next.ensures
 

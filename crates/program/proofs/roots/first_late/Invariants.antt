@@ -6,7 +6,4 @@ use Rattle.program.proofs.Late.{late_nodes}
 use Rattle.program.proofs.roots.first_late.Given as goal
 
 abbrev pub invariant-loop-k : goal.invariant-loop-k
-invariant-loop-k l = late_nodes l.r (nodes_from l.program l.i (l.end - l.i)) l.i ≡ late_nodes l.r (nodes_from l.program l.k (l.end - l.k)) l.k
-
-abbrev pub decreases-loop-k : goal.decreases-loop-k
-decreases-loop-k l = l.end - l.k
+invariant-loop-k l = late_nodes l.r (nodes_from l.tree.program.now l.i (l.end - l.i)) l.i ≡ late_nodes l.r (nodes_from l.tree.program.now l.k (l.end - l.k)) l.k

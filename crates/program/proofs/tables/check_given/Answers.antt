@@ -6,7 +6,7 @@ use Rattle.program.proofs.tables.check_given.Goals as goal
 
 pub returns-then-options : goal.returns-then-options
 unfolding pulse_wrong
-returns-then-options c = c.refused.ensures ∙ pulse-refuses _ c.if-options.true
+returns-then-options c = c.refuse.ensures ∙ pulse-refuses _ c.if-options.true
 
 pub returns : goal.returns
 unfolding pulse_wrong

@@ -11,12 +11,12 @@ loop-i-init c = searched-none _ _
 pub returns-then-byte_wrong : goal.returns-then-byte_wrong
 returns-then-byte_wrong c =
     let loop = c.loop-i in
-    c.refused.ensures ∙ fault-here loop.invariant 21 c.loop-i-test.true (omega arith) (wrong_byte _ _ (sym c.byte_wrong.ensures ∙ c.if-byte_wrong.true))
+    c.refuse.ensures ∙ fault-here loop.invariant 21 (omega (arith, c.requires, c.loop-i-test.true)) (omega arith) (wrong_byte _ _ (sym c.byte_wrong.ensures ∙ c.if-byte_wrong.true))
 
 pub loop-i-preserved : goal.loop-i-preserved
 loop-i-preserved c =
     let loop = c.loop-i in
-    fault-next loop.invariant c.loop-i-test.true (right-byte _ _ (sym c.byte_wrong.ensures ∙ c.if-byte_wrong.false))
+    fault-next loop.invariant (omega (arith, c.requires, c.loop-i-test.true)) (right-byte _ _ (sym c.byte_wrong.ensures ∙ c.if-byte_wrong.false))
 
 pub returns : goal.returns
-returns c = faults-end c.loop-i.invariant c.loop-i-test.false
+returns c = faults-end c.loop-i.invariant (omega (arith, c.requires, c.loop-i-test.false))

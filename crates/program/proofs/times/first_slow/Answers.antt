@@ -14,15 +14,15 @@ least_at-requires c =
     let pre = c.requires in
     (pre.0, c.loop-i-test.true, pre.1)
 
-pub returns-then-node-least_at : goal.returns-then-node-least_at
-returns-then-node-least_at c =
+pub returns-then-from-least_at : goal.returns-then-from-least_at
+returns-then-from-least_at c =
     let loop-test = c.loop-i-test in
     let read-node = c.read_node-node in
     let loop = c.loop-i in
     let τ = time_in c.args.operators.now in
-    c.refused.ensures
+    c.refuse.ensures
     ∙ fault-here loop.invariant 7 loop-test.true (omega arith)
-    (slow-at τ _ _ _ _ read-node.ensures _ c.least_at.ensures c.if-node-least_at.true)
+    (slow-at τ _ _ _ _ read-node.ensures _ c.least_at.ensures (omega (arith, c.from.ensures, c.if-from-least_at.true)))
 
 pub loop-i-preserved : goal.loop-i-preserved
 loop-i-preserved c =
@@ -30,7 +30,7 @@ loop-i-preserved c =
     let loop-test = c.loop-i-test in
     let read-node = c.read_node-node in
     let τ = time_in c.args.operators.now in
-    fault-next loop.invariant loop-test.true (not-slow-at τ _ _ _ _ read-node.ensures _ c.least_at.ensures c.if-node-least_at.false)
+    fault-next loop.invariant loop-test.true (not-slow-at τ _ _ _ _ read-node.ensures _ c.least_at.ensures (omega (arith, c.from.ensures, c.if-from-least_at.false)))
 
 pub returns : goal.returns
 returns c = faults-end c.loop-i.invariant c.loop-i-test.false

@@ -56,7 +56,7 @@ pub returns-then-kind-eq24 : goal.returns-then-kind-eq24
 returns-then-kind-eq24 c =
     let pre = c.requires in
     let τ = time_in c.args.operators.now in
-    c.larger-then-kind-eq24.ensures ∙ ap (max 1) c.larger.ensures
+    c.max-then-kind-eq24.ensures ∙ ap (max 1) c.max.ensures
     ∙ least-elem τ _ _ _ pre.1 _ c.read_node-node.ensures _ c.known_time-time.ensures c.if-kind-eq24.true _
     (past-trees _ _ _ (λ l. (pre.2 _ l).end) _ c.next.ensures) _ c.known_time-second.ensures
 
@@ -65,14 +65,14 @@ returns-then-kind-eq18 c =
     let start = c in
     let τ = time_in start.args.operators.now in
     let node = c.read_node-node in
-    c.larger-then-kind-eq18.ensures ∙ least-assign τ _ _ _ start.requires.1 _ node.ensures _ c.known_time-time.ensures c.if-kind-eq18.true
+    c.max-then-kind-eq18.ensures ∙ least-assign τ _ _ _ start.requires.1 _ node.ensures _ c.known_time-time.ensures c.if-kind-eq18.true
 
 pub returns : goal.returns
 returns c =
     let start = c in
     let τ = time_in start.args.operators.now in
     let node = c.read_node-node in
-    c.larger-2.ensures ∙ ap (λ (n : ℕ). max n c.known_time-time.result) c.gap-2.ensures
+    c.max-2.ensures ∙ ap (λ (n : ℕ). max n c.known_time-time.result) c.gap-2.ensures
     ∙ least_other τ _ _ _ start.requires.1 _ node.ensures _ c.known_time-time.ensures
     c.if-kind-le16.false c.if-kind-eq17.false
     c.if-kind-eq19.false c.if-kind-eq20.false

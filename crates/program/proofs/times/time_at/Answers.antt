@@ -54,7 +54,7 @@ returns-then-kind-eq10 c =
 pub known_time-second-requires : goal.known_time-second-requires
 known_time-second-requires c =
     let start = c in
-    let e = past-later start.args.program.now start.args.ends.now (start.args.i + 1) (λ l. (start.requires.2 _ (omega arith) l).end) _ c.next.ensures in
+    let e = past-later start.args.program.now start.args.told.now.ends (start.args.i + 1) (λ l. (start.requires.2 _ (omega arith) l).end) _ c.next.ensures in
     (start.requires.0, λ l. (start.requires.2 _ (omega (arith, e)) l).timed)
 
 pub overflow_add-result-2 : goal.overflow_add-result-2
@@ -63,17 +63,17 @@ overflow_add-result-2 c =
     let τ = time_in start.args.operators.now in
     let low : (k : ℕ) → τ k ≤ 255 = λ k. omega (arith, c.shared_slice_known-1.given k) in
     let o = c.operator_time-operator.ensures in
-    let e = past-later start.args.program.now start.args.ends.now (start.args.i + 1) (λ l. (start.requires.2 _ (omega arith) l).end) _ c.next.ensures in
+    let e = past-later start.args.program.now start.args.told.now.ends (start.args.i + 1) (λ l. (start.requires.2 _ (omega arith) l).end) _ c.next.ensures in
     let l : 1 ≤ c.next.result = omega (arith, e) in
     let x = time-fits τ low _ start.requires.0 _ (omega arith) _ _ _ o c.known_time-first.ensures in
     let y = time-fits τ low _ start.requires.0 _ l _ _ _ o c.known_time-second.ensures in
-    omega (arith, x, y, c.larger.ensures)
+    omega (arith, x, y, c.max.ensures)
 
 pub returns : goal.returns
 returns c =
     let at-operator = c in
     let start = c in
-    ap (λ (m : ℕ). at-operator.operator_time-operator.result + m) c.larger.ensures
+    ap (λ (m : ℕ). at-operator.operator_time-operator.result + m) c.max.ensures
     ∙ time-op (time_in start.args.operators.now) _ _ start.requires.1 _ c.read_node-node.ensures _ at-operator.operator_time-operator.ensures _ c.known_time-first.ensures
     c.if-kind-ge16.false c.if-kind-eq1.false c.if-kind-eq2.false c.if-kind-eq3.false c.if-kind-eq10.false _
     (past-trees _ _ _ (λ l. (start.requires.2 _ (omega arith) l).end) _ c.next.ensures) _ c.known_time-second.ensures

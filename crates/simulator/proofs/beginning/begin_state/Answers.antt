@@ -23,12 +23,6 @@ clear-requires c =
     let base = c.base-end in
     omega (arith, fits-room pre.0, base.ensures, c.put_elements.auto.state)
 
-pub show_first-requires : goal.show_first-requires
-show_first-requires c =
-    let pre = c.requires in
-    let put-elements = c.put_elements in
-    (refits pre.0 (c.clear.auto.state ∙ put-elements.auto.state), pre.1)
-
 pub settle_all-requires : goal.settle_all-requires
 settle_all-requires c =
     let args = c.args in
@@ -52,7 +46,6 @@ returns c =
     let base = c.base-end in
     let put-elements = c.put_elements in
     let clear = c.clear in
-    let settle-all = c.settle_all in
     let show-first = c.show_first in
     let F = args.format in
     let pre = c.requires in

@@ -18,7 +18,7 @@ use Rattle.netlist.proofs.Following.{follows}
 use Rattle.simulator.proofs.AcceptedFile.{file-sixteen}
 use Rattle.simulator.proofs.Cells.{fits-few, fits-room, net-length, cursor-there, cursor-low, cursor-cell, holds, holds-cell}
 use Rattle.simulator.proofs.Memories.{below_more, below-lt, below-le}
-use Rattle.simulator.proofs.Passes.{passed_none, passed-more, passed-all}
+use Rattle.simulator.proofs.Passes.{passed_none, passed-more}
 use Rattle.simulator.proofs.beginning.show_first.Goals as goal
 
 pub loop-k-init : goal.loop-k-init
@@ -60,19 +60,15 @@ store-requires c =
       follows loop.k loop.invariant.2 next-offset.ensures,
     )
 
-pub overflow_cast-j : goal.overflow_cast-j
-overflow_cast-j c =
-    let cell-from = c.cell_from-c in
-    omega (arith, c.bit.ensures, bit-lt (eqb cell-from.result.kind 40))
-
 pub overflow_add-j : goal.overflow_add-j
+unfolding bit
 overflow_add-j c =
     let loop = c.loop-k in
     let pre = c.requires in
     let args = c.args in
     let cell-from = c.cell_from-c in
     let sixteen = file-sixteen args.format args.file.now args.state.now pre.0.runs in
-    omega (arith, loop.invariant.1, sixteen, below-le (cells_of args.file.now) loop.k, c.bit.ensures, bit-lt (eqb cell-from.result.kind 40))
+    omega (arith, loop.invariant.1, sixteen, below-le (cells_of args.file.now) loop.k, c.from-j.ensures, bit-lt (eqb cell-from.result.kind 40))
 
 -- cell k shows v, which is put in at i
 shown_by : (F : Format) (net : Netlist) (words s t : List ℕ) (k i v : ℕ) → t ≡ stored F net s k → i ≡ base F k → v ≡ first_value F net (word_at words) s k
@@ -81,6 +77,7 @@ unfolding shown
 shown_by F net words s t k i v a b c = rw (a, b, c) refl
 
 pub loop-k-preserved : goal.loop-k-preserved
+unfolding bit
 loop-k-preserved c =
     let base-call = c.base-to in
     let args = c.args in
@@ -98,7 +95,7 @@ loop-k-preserved c =
     let l : loop.k < length net.cells = rw (net-length pre.0) loop-test.true in (
       passed-more loop.invariant.0 loop-test.true (put16-call.auto.s ∙ store.auto.state)
           (put16-call.ensures ∙ shown_by args.format net args.words.now loop.state _ loop.k _ _ store.ensures base-call.ensures (first-value.ensures (sym loop.invariant.1))),
-      omega (arith, loop.invariant.1, below_more net.cells loop.k l, ap (λ (d : Cell). bit (eqb d.kind 40)) e, c.bit.ensures),
+      omega (arith, loop.invariant.1, below_more net.cells loop.k l, ap (λ (d : Cell). bit (eqb d.kind 40)) e, c.from-j.ensures),
       follows loop.k loop.invariant.2 next-offset.ensures,
     )
 
@@ -107,18 +104,6 @@ next_offset-at-requires c =
     let pre = c.requires in
     let loop = c.loop-k in
     cursor-low pre.0 loop.k c.loop-k-test.true loop.invariant.2
-
-pub overflow_add-k : goal.overflow_add-k
-overflow_add-k c =
-    let pre = c.requires in
-    let test = c.loop-k-test in
-    omega (arith, fits-few pre.0, test.true)
-
-pub shape_of-state : goal.shape_of-state
-shape_of-state c = c.loop-k.invariant.0.long
-
-pub returns : goal.returns
-returns c = passed-all c.loop-k.invariant.0 c.loop-k-test.false
 
 pub base-to-requires : goal.base-to-requires
 base-to-requires c =

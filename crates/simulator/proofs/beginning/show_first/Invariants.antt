@@ -1,6 +1,5 @@
 -- `show_first` meets its contract: the state so far is the pass up to cell k, which begins at the cursor, and j memories stand below it. Assumes nothing.
 use mathlib.Core.Path.{◌≡◌}
-use Prim.Native.Nat.{◌-◌}
 use lib.ListN.{take}
 use Rattle.model.specs.Calls.{word_at}
 use Rattle.model.specs.Circuit.{memories}
@@ -11,7 +10,4 @@ use Rattle.simulator.proofs.beginning.show_first.Given as goal
 
 abbrev pub invariant-loop-k : goal.invariant-loop-k
 invariant-loop-k l =
-    Passed (shown l.format (net_of l.file) (first_value l.format (net_of l.file) (word_at l.words))) l.n l.initial.state l.state l.k × (l.j ≡ memories (take l.k (cells_of l.file))) × (l.at ≡ in_file l.k)
-
-abbrev pub decreases-loop-k : goal.decreases-loop-k
-decreases-loop-k l = l.n - l.k
+    Passed (shown l.format (net_of l.file) (first_value l.format (net_of l.file) (word_at l.words))) l.h.count l.initial.state l.state l.k × (l.j ≡ memories (take l.k (cells_of l.file))) × (l.at ≡ in_file l.k)

@@ -3,11 +3,11 @@ use mathlib.Core.Path.{◌∙◌}
 use Rattle.simulator.proofs.Refusing.{full-goes, compact-goes, compact-stops}
 use Rattle.simulator.proofs.checks.check_format.Goals as goal
 
-pub returns-then-pulse-gt1 : goal.returns-then-pulse-gt1
-returns-then-pulse-gt1 c = c.refuse.ensures ∙ compact-stops _ _ c.in-Compact.is c.if-pulse-gt1.true
+pub returns-in-Compact : goal.returns-in-Compact
+returns-in-Compact c = c.refuse.ensures ∙ compact-stops _ _ c.in-Compact.is c.if-pulse-gt1.true
 
-pub returns-in-Full : goal.returns-in-Full
-returns-in-Full c = full-goes _ _ c.in-Full.is
+pub returns-in_default : goal.returns-in_default
+returns-in_default c = compact-goes _ _ c.in-Compact.is c.if-pulse-gt1.false
 
-pub returns-else-pulse-gt1 : goal.returns-else-pulse-gt1
-returns-else-pulse-gt1 c = compact-goes _ _ c.in-Compact.is c.if-pulse-gt1.false
+pub returns-in_default-2 : goal.returns-in_default-2
+returns-in_default-2 c = full-goes _ _ c.in_default.is

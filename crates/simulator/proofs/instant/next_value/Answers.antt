@@ -1,6 +1,6 @@
 -- `next_value` meets its contract. Assumes nothing.
 use mathlib.Core.Bool.{not, ◌&&◌, ◌||◌}
-use mathlib.Core.Path.{refl, sym, ◌∙◌, ap, ap₂}
+use mathlib.Core.Path.{sym, ◌∙◌, ap, ap₂}
 use Prim.Native.Nat.{ℕ}
 use native.Mathlib.Omega.{arith}
 use Rattle.model.specs.Word.{bit, is_zero, operate, element_of}
@@ -10,6 +10,7 @@ use Rattle.model.specs.NetlistFile.{net_of}
 use Rattle.simulator.proofs.Cells.{fits-pulse, read-array}
 use Rattle.simulator.proofs.ByKind.{no-operator-low, no-operator-high, next-constant, next_start, next-delay, next-or, next-when-true, next-when-false, next-merge, next-fallen, next-kept, next-gate-open, next-gate-shut, next-operator, next-latch, next-read, next-still}
 use Rattle.simulator.proofs.instant.next_value.Goals as goal
+use Rattle.simulator.proofs.instant.next_value.Goals.{then-has_fallen, else-has_fallen}
 
 pub returns-then-kind-eq1 : goal.returns-then-kind-eq1
 returns-then-kind-eq1 c = sym (next-constant _ _ _ _ _ _ c.if-kind-eq1.true)
@@ -17,39 +18,19 @@ returns-then-kind-eq1 c = sym (next-constant _ _ _ _ _ _ c.if-kind-eq1.true)
 pub returns-then-kind-eq34 : goal.returns-then-kind-eq34
 returns-then-kind-eq34 c = c.line_out.ensures ∙ sym (next-delay _ _ _ _ _ _ c.if-kind-eq34.true)
 
-pub has_fallen-requires : goal.has_fallen-requires
-has_fallen-requires c =
-    let pre = c.requires in
-    let if1 = c.if-kind-eq1 in
-    pre.sees.a if1.false
-
-pub returns-then-has_fallen : goal.returns-then-has_fallen
-returns-then-has_fallen c =
-    let if3 = c.if-kind-eq40 in
-    c.before_at.ensures ∙ sym (next-fallen _ _ _ _ _ _ if3.true (sym c.has_fallen.ensures ∙ c.if-has_fallen.true))
-
 pub returns-then-kind-eq40 : goal.returns-then-kind-eq40
 returns-then-kind-eq40 c =
-    let if3 = c.if-kind-eq40 in
-    c.before_at-then-kind-eq40.ensures ∙ sym (next-kept _ _ _ _ _ _ if3.true (sym c.has_fallen.ensures ∙ c.if-has_fallen.false))
-
-pub now_at-x-requires : goal.now_at-x-requires
-now_at-x-requires c =
-    let pre = c.requires in
-    let if1 = c.if-kind-eq1 in
-    pre.sees.a if1.false
+    let fallen = sym c.has_fallen.ensures in
+    elim c.if-has_fallen.branch [
+      | then-has_fallen w ↦ rw w.from-is at c.before_at.ensures ∙ sym (next-fallen _ _ _ _ _ _ c.if-kind-eq40.true (fallen ∙ w.if-has_fallen.true))
+      | else-has_fallen w ↦ rw w.from-is at c.before_at.ensures ∙ sym (next-kept _ _ _ _ _ _ c.if-kind-eq40.true (fallen ∙ w.if-has_fallen.false))
+    ]
 
 pub element_now-requires : goal.element_now-requires
 element_now-requires c =
     let pre = c.requires in
     let array = read-array pre c.in-44.is in
     (pre.fits, array.0, array.1)
-
-pub latched-requires : goal.latched-requires
-latched-requires c =
-    let pre = c.requires in
-    let if1 = c.if-kind-eq1 in
-    (pre.stands, pre.sees.a if1.false, pre.sees.b)
 
 pub returns-in-32 : goal.returns-in-32
 returns-in-32 c =
@@ -73,17 +54,7 @@ returns-in-38 c =
     c.merged.ensures
     ∙ ap₂ (λ (x y : ℕ). bit (step_of args.h.pulse args.c.kind (high (before_at args.format args.state.now args.k)) (held_at args.format args.state.now args.k) (high x) (high y)).out) c.now_at-x.ensures c.now_at-y.ensures
     ∙ ap (λ (w : ℕ). bit (step_of w args.c.kind (high (before_at args.format args.state.now args.k)) (held_at args.format args.state.now args.k) (high (now_at args.format args.state.now args.c.a)) (high (now_at args.format args.state.now args.c.b))).out) (fits-pulse pre.fits)
-    ∙ sym (next-merge _ _ _ _ _ _ (rw c.in-38.is refl))
-
-pub returns-in-39 : goal.returns-in-39
-unfolding merges
-returns-in-39 c =
-    let pre = c.requires in
-    let args = c.args in
-    c.merged-in-39.ensures
-    ∙ ap₂ (λ (x y : ℕ). bit (step_of args.h.pulse args.c.kind (high (before_at args.format args.state.now args.k)) (held_at args.format args.state.now args.k) (high x) (high y)).out) c.now_at-x.ensures c.now_at-y.ensures
-    ∙ ap (λ (w : ℕ). bit (step_of w args.c.kind (high (before_at args.format args.state.now args.k)) (held_at args.format args.state.now args.k) (high (now_at args.format args.state.now args.c.a)) (high (now_at args.format args.state.now args.c.b))).out) (fits-pulse pre.fits)
-    ∙ sym (next-merge _ _ _ _ _ _ (rw c.in-39.is refl))
+    ∙ sym (next-merge _ _ _ _ _ _ (grind arith))
 
 pub returns-then-x-eq1 : goal.returns-then-x-eq1
 returns-then-x-eq1 c =
@@ -115,51 +86,67 @@ pub returns-in_default : goal.returns-in_default
 returns-in_default c =
     let if1 = c.if-kind-eq1 in
     let if2 = c.if-kind-eq34 in
-    let match = c.in_default in
     let if3 = c.if-kind-eq40 in
     sym
     (next-still _ _ _ _ _ _
     (record {
-      operator = no-operator-low _ c.in_default.if-kind-lt3-own.true;
+      operator = no-operator-low _ (omega arith);
       constant = if1.false;
       delay = if2.false;
-      start = match.in_default-own.rest.0.0.0.0.0.0.0.0.1;
-      join = match.in_default-own.rest.0.0.0.0.0.0.0.1;
-      when_true = match.in_default-own.rest.0.0.0.0.0.0.1;
-      when_false = match.in_default-own.rest.0.0.0.0.0.1;
-      merge = match.in_default-own.rest.0.0.0.0.1;
-      return = match.in_default-own.rest.0.0.0.1;
+      start = omega arith;
+      join = omega arith;
+      when_true = omega arith;
+      when_false = omega arith;
+      merge = omega arith;
+      return = omega arith;
       memory = if3.false;
-      gated = match.in_default-own.rest.0.0.1;
-      read = match.in_default-own.rest.0.1;
-      latch = match.in_default-own.rest.1;
+      gated = omega arith;
+      read = omega arith;
+      latch = omega arith;
     }))
 
 pub returns-in_default-2 : goal.returns-in_default-2
 returns-in_default-2 c =
     let if1 = c.if-kind-eq1 in
     let if2 = c.if-kind-eq34 in
-    let match = c.in_default in
     let if3 = c.if-kind-eq40 in
     sym
     (next-still _ _ _ _ _ _
     (record {
-      operator = no-operator-high _ c.in_default.if-kind-lt10-own.false;
+      operator = no-operator-high _ (omega arith);
       constant = if1.false;
       delay = if2.false;
-      start = match.in_default-own.rest.0.0.0.0.0.0.0.0.1;
-      join = match.in_default-own.rest.0.0.0.0.0.0.0.1;
-      when_true = match.in_default-own.rest.0.0.0.0.0.0.1;
-      when_false = match.in_default-own.rest.0.0.0.0.0.1;
-      merge = match.in_default-own.rest.0.0.0.0.1;
-      return = match.in_default-own.rest.0.0.0.1;
+      start = omega arith;
+      join = omega arith;
+      when_true = omega arith;
+      when_false = omega arith;
+      merge = omega arith;
+      return = omega arith;
       memory = if3.false;
-      gated = match.in_default-own.rest.0.0.1;
-      read = match.in_default-own.rest.0.1;
-      latch = match.in_default-own.rest.1;
+      gated = omega arith;
+      read = omega arith;
+      latch = omega arith;
     }))
 
-pub line_out-requires : goal.line_out-requires
-line_out-requires c =
-    let pre = c.requires in
-    (pre.stands, pre.sees.delay c.if-kind-eq34.true)
+pub returns-in_default-3 : goal.returns-in_default-3
+returns-in_default-3 c =
+    let if1 = c.if-kind-eq1 in
+    let if2 = c.if-kind-eq34 in
+    let if3 = c.if-kind-eq40 in
+    sym
+    (next-still _ _ _ _ _ _
+    (record {
+      operator = no-operator-high _ (omega arith);
+      constant = if1.false;
+      delay = if2.false;
+      start = omega arith;
+      join = omega arith;
+      when_true = omega arith;
+      when_false = omega arith;
+      merge = omega arith;
+      return = omega arith;
+      memory = if3.false;
+      gated = omega arith;
+      read = omega arith;
+      latch = omega arith;
+    }))

@@ -11,12 +11,8 @@ use Rattle.simulator.proofs.InFlight.{delay-moves, merge-comes, merge-goes, merg
 use Rattle.state.proofs.Remaining.{remaining-inside}
 use Rattle.simulator.proofs.instant.settle.Goals as goal
 
-pub is_high-x-requires : goal.is_high-x-requires
-is_high-x-requires c =
-    let pre = c.requires in
-    pre.1.a (λ e. omega (arith, c.if-kind-eq34.true))
-
 pub overflow_sub-result : goal.overflow_sub-result
+unfolding bit
 overflow_sub-result c =
     let if1 = c.if-kind-eq34 in
     let pre = c.requires in
@@ -24,9 +20,10 @@ overflow_sub-result c =
     let is-high = c.is_high-x in
     let args = c.args in
     let moves = delay-moves args.pulse args.format args.state.now args.k args.c if1.true in
-    omega (arith, pre.3, moves.0, moves.1, line-out.ensures, c.bit.ensures, ap bit is-high.ensures)
+    omega (arith, pre.3, moves.0, moves.1, line-out.ensures, c.from.ensures, ap bit is-high.ensures)
 
 pub returns-then-kind-eq34 : goal.returns-then-kind-eq34
+unfolding bit
 returns-then-kind-eq34 c =
     let if1 = c.if-kind-eq34 in
     let is-high = c.is_high-x in
@@ -35,7 +32,7 @@ returns-then-kind-eq34 c =
     let args = c.args in
     let delay = if1.true in
     let moves = delay-moves args.pulse args.format args.state.now args.k args.c delay in
-    record { state = c.take_in.ensures ∙ ap (taken_in args.format args.state.now args.k args.c.delay) is-high.ensures ∙ sym (settle-delay _ _ _ _ _ delay); number = omega (arith, pre.3, moves.0, moves.1, line-out.ensures, c.bit.ensures, ap bit is-high.ensures) }
+    record { state = c.take_in.ensures ∙ ap (taken_in args.format args.state.now args.k args.c.delay) is-high.ensures ∙ sym (settle-delay _ _ _ _ _ delay); number = omega (arith, pre.3, moves.0, moves.1, line-out.ensures, c.from.ensures, ap bit is-high.ensures) }
 
 pub is_high-x-requires-then-is_merge : goal.is_high-x-requires-then-is_merge
 is_high-x-requires-then-is_merge c =
@@ -96,9 +93,6 @@ bounds-state-at-then-kind-eq32 c =
     let pre = c.requires in
     omega (arith, c.remaining_byte-at.ensures, remaining-inside args.format args.state.now args.k pre.0)
 
-pub overflow_cast-result-then-kind-eq32-2 : goal.overflow_cast-result-then-kind-eq32-2
-overflow_cast-result-then-kind-eq32-2 c = omega (arith, c.slice_known-then-kind-eq32-1.given c.remaining_byte-at.result)
-
 pub overflow_sub-result-then-kind-eq32 : goal.overflow_sub-result-then-kind-eq32
 overflow_sub-result-then-kind-eq32 c =
     let if3 = c.if-kind-eq32 in
@@ -132,8 +126,3 @@ returns c =
     let none = sym c.is_merge.ensures ∙ c.if-is_merge.false in
     let moves = none_moves args.pulse args.format args.state.now args.k args.c if1.false none c.if-kind-eq32.false in
     record { state = sym (settle_other _ _ _ _ _ if1.false none c.if-kind-eq32.false); number = omega (arith, moves.0, moves.1) }
-
-pub line_out-out-requires : goal.line_out-out-requires
-line_out-out-requires c =
-    let pre = c.requires in
-    (pre.0, pre.1.delay c.if-kind-eq34.true)

@@ -17,11 +17,7 @@ use Rattle.simulator.proofs.Continuing.{accepts-none}
 use Rattle.simulator.proofs.Crowding.{crowds-other}
 use Rattle.simulator.proofs.InFlight.{settling-none, settling-spares, settling-crowded, settling-asks, settling-more, settling-all, settling-free, told-spares}
 use Rattle.simulator.proofs.instant.settle_all.Goals as goal
-use Rattle.simulator.proofs.instant.settle_all.Goals.{then-c-eq34+else-is_crowded, else-c-eq34}
-
-pub get32-number-requires : goal.get32-number-requires
-get32-number-requires c =
-    omega (arith, fits-room c.requires.0)
+use Rattle.simulator.proofs.instant.settle_all.Goals.{else-c-eq34-via-then-c-eq34+else-is_crowded, else-c-eq34-via-else-c-eq34}
 
 pub loop-k-init : goal.loop-k-init
 loop-k-init c =
@@ -54,7 +50,7 @@ returns-then-is_crowded c =
     let taken = test.true in
     let here = cursor-cell pre.0 loop.k taken loop.invariant.1 cell-from.ensures in
     let cell = holds-cell (holds pre.0 loop.k taken args.state.now refl _ here) in
-    let long = net-length pre.0 in record { check = settling-crowded loop.invariant.0 long taken _ cell (sym c.is_crowded.ensures ∙ c.if-is_crowded.true); state = (λ e. accepts-none (sym e)); spares = settling-spares loop.invariant.0 }
+    let long = net-length pre.0 in record { check = c.refuse.ensures ∙ settling-crowded loop.invariant.0 long taken _ cell (sym c.is_crowded.ensures ∙ c.if-is_crowded.true); state = (λ e. accepts-none (sym e ∙ c.refuse.ensures)); spares = settling-spares loop.invariant.0 }
 
 pub settle-number-requires : goal.settle-number-requires
 settle-number-requires c =
@@ -70,25 +66,18 @@ settle-number-requires c =
     let cell = holds-cell at in
     let long = net-length pre.0 in
     let free : crowds args.format loop.state loop.k (c.cell_from-c.result) ≡ false =
-    elim c.if-c-eq34.branch [ then-c-eq34+else-is_crowded w ↦ sym w.is_crowded.ensures ∙ w.if-is_crowded.false | else-c-eq34 w ↦ crowds-other _ _ _ args.format w.if-c-eq34.false ] in
+    elim c.else-c-eq34.branch [ else-c-eq34-via-then-c-eq34+else-is_crowded w ↦ sym w.is_crowded.ensures ∙ w.if-is_crowded.false | else-c-eq34-via-else-c-eq34 w ↦ crowds-other _ _ _ args.format w.if-c-eq34.false ] in
     let room : base args.format args.h.count ≤ length args.state.now = omega (arith, fits-room pre.0) in
     let bytes : (j : ℕ) → get_or args.state.now j 0 < 256 = λ j. omega (arith, slice-known.given j) in
     let asks = settling-asks loop.invariant.0 long taken _ cell (fits-ordered pre.0) room pre.1 bytes free (fits-few pre.0) in
     (at.stands, at.sees, asks.0, rw (fits-pulse pre.0) asks.1)
-
-pub overflow_add-k : goal.overflow_add-k
-overflow_add-k c =
-    let pre = c.requires in
-    omega (arith, fits-few pre.0)
 
 pub loop-k-preserved : goal.loop-k-preserved
 loop-k-preserved c =
     let test = c.loop-k-test in
     let cell-from = c.cell_from-c in
     let next-offset = c.next_offset-at in
-    let if1 = c.if-c-eq34 in
     let slice-known = c.slice_known-1 in
-    let settle-call = c.settle-number in
     let args = c.args in
     let pre = c.requires in
     let loop = c.loop-k in
@@ -97,7 +86,7 @@ loop-k-preserved c =
     let cell = holds-cell (holds pre.0 loop.k taken args.state.now refl _ here) in
     let long = net-length pre.0 in
     let free : crowds args.format loop.state loop.k (c.cell_from-c.result) ≡ false =
-    elim if1.branch [ then-c-eq34+else-is_crowded w ↦ sym w.is_crowded.ensures ∙ w.if-is_crowded.false | else-c-eq34 w ↦ crowds-other _ _ _ args.format w.if-c-eq34.false ] in
+    elim c.else-c-eq34.branch [ else-c-eq34-via-then-c-eq34+else-is_crowded w ↦ sym w.is_crowded.ensures ∙ w.if-is_crowded.false | else-c-eq34-via-else-c-eq34 w ↦ crowds-other _ _ _ args.format w.if-c-eq34.false ] in
     let room : base args.format args.h.count ≤ length args.state.now = omega (arith, fits-room pre.0) in
     let bytes : (j : ℕ) → get_or args.state.now j 0 < 256 = λ j. omega (arith, slice-known.given j) in
     let settled = rw (fits-pulse pre.0) at c.settle-number.ensures in (
@@ -112,26 +101,10 @@ next_offset-at-requires c =
     let loop = c.loop-k in
     cursor-low pre.0 loop.k c.loop-k-test.true loop.invariant.1
 
-pub put32-requires : goal.put32-requires
-put32-requires c =
-    let pre = c.requires in
-    omega (arith, fits-room pre.0, c.loop-k.invariant.0.passed.long)
-
-pub shape_of-state-then-is_crowded : goal.shape_of-state-then-is_crowded
-shape_of-state-then-is_crowded c =
-    let loop = c.loop-k in
-    loop.invariant.0.passed.long
-
-pub shape_of-state : goal.shape_of-state
-shape_of-state c =
-    let loop = c.loop-k in
-    c.put32.auto.s ∙ loop.invariant.0.passed.long
-
 pub returns : goal.returns
 returns c =
     let test = c.loop-k-test in
     let put32 = c.put32 in
-    let args = c.args in
     let loop = c.loop-k in
     let pre = c.requires in
     let done = test.false in record { check = settling-free loop.invariant.0 done (net-length pre.0); state = (λ e. put32.ensures ∙ settling-all loop.invariant.0 done); spares = (λ j h. ap (λ (t : List ℕ). get_or t j 0) put32.ensures ∙ told-spares loop.invariant.0 done j h) }

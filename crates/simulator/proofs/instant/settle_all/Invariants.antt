@@ -1,13 +1,9 @@
 -- `settle_all` meets its contract: the state so far is the pass up to cell k, the number is what it has in flight, and no line so far was crowded.
 -- Assumes nothing.
 use mathlib.Core.Path.{◌≡◌}
-use Prim.Native.Nat.{◌-◌}
 use Rattle.model.specs.NetlistFile.{in_file, net_of}
 use Rattle.simulator.proofs.InFlight.{Settling}
 use Rattle.simulator.proofs.instant.settle_all.Given as goal
 
 abbrev pub invariant-loop-k : goal.invariant-loop-k
-invariant-loop-k l = Settling l.format (net_of l.file) l.n l.initial.state l.state l.k l.number × (l.at ≡ in_file l.k)
-
-abbrev pub decreases-loop-k : goal.decreases-loop-k
-decreases-loop-k l = l.n - l.k
+invariant-loop-k l = Settling l.format (net_of l.file) l.h.count l.initial.state l.state l.k l.number × (l.at ≡ in_file l.k)

@@ -1,26 +1,14 @@
 -- `show` meets its contract. Assumes nothing.
-use mathlib.Core.Path.{◌∙◌}
 use native.Mathlib.Omega.{arith}
 use Rattle.model.specs.NetlistFile.{net_of}
-use Rattle.simulator.proofs.Cells.{fits-few, fits-room, net-length, refits}
+use Rattle.simulator.proofs.Cells.{fits-few, fits-room, net-length}
 use Rattle.simulator.proofs.Stepping.{valued-is}
 use Rattle.simulator.proofs.instant.show.Goals as goal
-
-pub tick-requires : goal.tick-requires
-tick-requires c =
-    let pre = c.requires in
-    (omega (arith, fits-room pre.0), pre.1)
 
 pub age_all-requires : goal.age_all-requires
 age_all-requires c =
     let pre = c.requires in
     (fits-few pre.0, omega (arith, fits-room pre.0, c.tick.auto.state))
-
-pub show_all-requires : goal.show_all-requires
-show_all-requires c =
-    let pre = c.requires in
-    let tick = c.tick in
-    refits pre.0 (c.age_all.auto.state ∙ tick.auto.state)
 
 pub returns : goal.returns
 returns c =

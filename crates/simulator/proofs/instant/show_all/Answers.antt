@@ -4,7 +4,7 @@ use mathlib.Core.Path.{refl, ◌∙◌}
 use native.Mathlib.Omega.{arith}
 use Rattle.netlist.proofs.Following.{follows}
 use Rattle.simulator.proofs.Cells.{fits-few, fits-room, cursor-there, cursor-low, cursor-cell, shown-value, holds}
-use Rattle.simulator.proofs.Passes.{passed_none, passed-more, passed-all}
+use Rattle.simulator.proofs.Passes.{passed_none, passed-more}
 use Rattle.simulator.proofs.instant.show_all.Goals as goal
 
 pub loop-k-init : goal.loop-k-init
@@ -58,12 +58,6 @@ next_offset-at-requires c =
     let pre = c.requires in
     let loop = c.loop-k in
     cursor-low pre loop.k c.loop-k-test.true loop.invariant.1
-
-pub shape_of-state : goal.shape_of-state
-shape_of-state c = c.loop-k.invariant.0.long
-
-pub returns : goal.returns
-returns c = passed-all c.loop-k.invariant.0 c.loop-k-test.false
 
 pub base-to-requires : goal.base-to-requires
 base-to-requires c =

@@ -19,12 +19,6 @@ keep-requires c =
     let pre = c.requires in
     (fits-few pre.0, fits-room pre.0)
 
-pub check_lines-checked-requires : goal.check_lines-checked-requires
-check_lines-checked-requires c =
-    let pre = c.requires in
-    let show = c.show in
-    refits pre.0 show.auto.state
-
 pub take_back-requires : goal.take_back-requires
 take_back-requires c =
     let pre = c.requires in
@@ -32,23 +26,22 @@ take_back-requires c =
     let if1 = c.if-kept-ge-KEPT in
     (fits-few pre.0, omega (arith, if1.true), omega (arith, fits-room pre.0, show.auto.state))
 
-pub returns-in-Refused : goal.returns-in-Refused
-returns-in-Refused c =
+pub returns-in-Err : goal.returns-in-Err
+returns-in-Err c =
     let args = c.args in
     let pre = c.requires in
     let keep = c.keep in
     let show = c.show in
     let if1 = c.if-kept-ge-KEPT in
-    let check-lines = c.check_lines-checked in
-    let checked = c.in-Refused in
+    let check-lines = c.check_lines in
     let take_back = c.take_back in
     let F = args.format in
     let net = net_of args.file.now in
     let s = args.state.now in
-    let crowded = sym c.in-Refused.is ∙ check-lines.ensures ∙ ap (λ (x : List ℕ). crowding F net x x) show.ensures ∙ step-crowding F net args.starts s in
+    let crowded = sym c.in-Err.is ∙ check-lines.ensures ∙ ap (λ (x : List ℕ). crowding F net x x) show.ensures ∙ step-crowding F net args.starts s in
     let has = keep.ensures (omega (arith, if1.true, keep.auto.kept)) in
     let back = taken-back-by F net (fits-ordered pre.0) args.starts s _ (net-length pre.0) (fits-room pre.0) _ _ _ show.ensures has (omega (arith, if1.true))
-    (λ j. omega (arith, c.slice_known-1.given j)) (λ j. omega (arith, c.slice_known-in-Refused-1.given j)) take_back.ensures in
+    (λ j. omega (arith, c.slice_known-1.given j)) (λ j. omega (arith, c.slice_known-in-Err-1.given j)) take_back.ensures in
     record { check = crowded; state = (λ e. accepts-none (sym e)); spares = (λ j h. ap (λ (x : List ℕ). get_or x j 0) back); back = (λ roomy q e. back) }
 
 pub settle_all-requires : goal.settle_all-requires
@@ -74,7 +67,7 @@ returns c =
       state = (λ e. stepped F net args.starts s _ long _ _ show.ensures (done.state e));
       spares = (λ j h. done.spares j h ∙ ap (λ (x : List ℕ). get_or x j 0) show.ensures ∙ step-spares F net (fits-ordered pre.0) args.starts s j (rw long h));
       back = (λ roomy q e. elim if1.branch [
-        | then-kept-ge-KEPT+in_default w ↦ accepts-none (sym w.in_default.is ∙ w.check_lines-checked.ensures ∙ sym done.check ∙ e)
+        | then-kept-ge-KEPT+in_default w ↦ accepts-none (sym w.in_default.is ∙ w.check_lines.ensures ∙ sym done.check ∙ e)
         | else-kept-ge-KEPT w ↦ absurd (omega (arith, roomy, w.if-kept-ge-KEPT.false, c.keep.auto.kept))
       ]);
     }

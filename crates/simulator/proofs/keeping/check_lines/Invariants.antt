@@ -1,13 +1,10 @@
 -- `check_lines` meets its contract: no line below cell k, which begins at the cursor, is crowded. Assumes nothing.
 use mathlib.Core.Path.{◌≡◌}
-use Prim.Native.Nat.{◌-◌, ◌≤◌}
+use Prim.Native.Nat.{◌≤◌}
 use Rattle.model.specs.NetlistFile.{in_file, net_of}
 use Rattle.laws.specs.Refusals.Search.{Searched}
 use Rattle.simulator.proofs.Crowding.{crowd_fault}
 use Rattle.simulator.proofs.keeping.check_lines.Given as goal
 
 abbrev pub invariant-loop-k : goal.invariant-loop-k
-invariant-loop-k l = Searched (crowd_fault l.format (net_of l.file) l.state) l.n l.k × (l.k ≤ l.n) × (l.at ≡ in_file l.k)
-
-abbrev pub decreases-loop-k : goal.decreases-loop-k
-decreases-loop-k l = l.n - l.k
+invariant-loop-k l = Searched (crowd_fault l.format (net_of l.file) l.state) l.fn.h.count l.k × (l.k ≤ l.fn.h.count) × (l.at ≡ in_file l.k)

@@ -1,7 +1,6 @@
 -- `continue_state` meets its contract: what is left to evaluate from the state so far is what there was to evaluate at first.
 -- Assumes nothing.
 use mathlib.Core.Path.{◌≡◌}
-use Prim.Native.Nat.{◌-◌}
 use Rattle.model.specs.NetlistFile.{net_of, finish_of}
 use lib.ListN.{length}
 use Rattle.simulator.specs.Fits.{Spares}
@@ -11,6 +10,3 @@ use Rattle.simulator.proofs.runs.continue_state.Given as goal
 abbrev pub invariant-loop-count : goal.invariant-loop-count
 invariant-loop-count l =
     Underway l.format (net_of l.file) l.starts (finish_of l.file) l.budget l.initial.state l.state l.count × Spares l.format l.h.count l.initial.state l.state × (length l.kept ≡ length l.initial.kept)
-
-abbrev pub decreases-loop-count : goal.decreases-loop-count
-decreases-loop-count l = l.budget - l.count

@@ -17,11 +17,6 @@ use Rattle.simulator.proofs.Answers.{full-ended, full-open}
 use Rattle.simulator.proofs.Continuing.{count_under}
 use Rattle.simulator.proofs.runs.full_run.Goals as goal
 
-pub begin_state-requires : goal.begin_state-requires
-begin_state-requires c =
-    let pre = c.requires in
-    (record { runs = pre.0; header = c.header_of-h.ensures }, pre.1)
-
 pub is_high-requires : goal.is_high-requires
 is_high-requires c =
     let header_of = c.header_of-h in
@@ -29,13 +24,6 @@ is_high-requires c =
     let pre = c.requires in
     let z = file-sized Full args.file.now args.state.now pre.0 in
     file-stands Full args.file.now _ (reruns pre.0 c.begin_state.auto.state) _ (omega (arith, header-finish args.file.now header_of.ensures, z.finish))
-
-pub shows-requires : goal.shows-requires
-shows-requires c =
-    let pre = c.requires in
-    let begin-state = c.begin_state in
-    let header_of = c.header_of-h in
-    record { runs = reruns pre.0 begin-state.auto.state; header = header_of.ensures }
 
 pub returns-then-is_high : goal.returns-then-is_high
 returns-then-is_high c =
@@ -66,18 +54,9 @@ continue_in-went-requires c =
 
 pub overflow_add-went : goal.overflow_add-went
 overflow_add-went c =
-    let continue-in = c.continue_in-went in
     let pre = c.requires in
     let low = count_under Full _ false _ _ _ _ c.continue_in-went.ensures.count in
     omega (arith, low, pre.2)
-
-pub shows-requires-2 : goal.shows-requires-2
-shows-requires-2 c =
-    let pre = c.requires in
-    let continue-in = c.continue_in-went in
-    let begin-state = c.begin_state in
-    let header_of = c.header_of-h in
-    record { runs = reruns pre.0 (c.continue_in-went.auto.state ∙ begin-state.auto.state); header = header_of.ensures }
 
 pub returns : goal.returns
 returns c =

@@ -10,14 +10,6 @@ use Rattle.simulator.proofs.Cells.{fits-finish, fits-few, fits-room}
 use Rattle.simulator.proofs.Answers.{answer-shows}
 use Rattle.simulator.proofs.runs.shows.Goals as goal
 
-pub words_in-words-requires : goal.words_in-words-requires
-words_in-words-requires c =
-    c.requires
-
-pub get32-instant-requires : goal.get32-instant-requires
-get32-instant-requires c =
-    omega (arith, fits-room c.requires)
-
 pub is_high-requires : goal.is_high-requires
 is_high-requires c =
     let args = c.args in

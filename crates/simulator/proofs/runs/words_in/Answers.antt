@@ -11,6 +11,7 @@ use Rattle.simulator.proofs.AcceptedFile.{file-sixteen}
 use Rattle.simulator.proofs.Cells.{fits-few, fits-room, net-length, net-cell, cursor-there, cursor-low, cursor-cell}
 use Rattle.simulator.proofs.Memories.{collects-first, collects-room, collects-memory, collects-other, collects-all}
 use Rattle.simulator.proofs.runs.words_in.Goals as goal
+use Rattle.simulator.proofs.runs.words_in.Goals.{then-c-eq40, else-c-eq40}
 
 pub loop-k-init : goal.loop-k-init
 loop-k-init c =
@@ -30,17 +31,6 @@ next_offset-at-requires c =
     let loop = c.loop-k in
     cursor-low pre loop.k c.loop-k-test.true loop.invariant.2
 
-pub offset_bounds-words-j : goal.offset_bounds-words-j
-offset_bounds-words-j c =
-    let loop = c.loop-k in
-    let args = c.args in
-    let pre = c.requires in
-    let cell-from = c.cell_from-c in
-    let l : loop.k < args.h.count = c.loop-k-test.true in
-    let m : loop.k < length (cells_of args.file.now) = rw (net-length pre) l in
-    let e : cell_at (cells_of args.file.now) loop.k ≡ cell-from.result = net-cell pre loop.k l ∙ sym (cursor-cell pre loop.k l loop.invariant.2 cell-from.ensures) in
-    omega (arith, collects-room args.format (cells_of args.file.now) args.state.now loop.words loop.j loop.k m cell-from.result e loop.invariant.1 c.if-c-eq40.true)
-
 pub bounds-words-j : goal.bounds-words-j
 bounds-words-j c =
     let loop = c.loop-k in
@@ -52,32 +42,6 @@ bounds-words-j c =
     let e : cell_at (cells_of args.file.now) loop.k ≡ cell-from.result = net-cell pre loop.k l ∙ sym (cursor-cell pre loop.k l loop.invariant.2 cell-from.ensures) in
     omega (arith, collects-room args.format (cells_of args.file.now) args.state.now loop.words loop.j loop.k m cell-from.result e loop.invariant.1 c.if-c-eq40.true)
 
-pub overflow_add-j : goal.overflow_add-j
-overflow_add-j c =
-    let loop = c.loop-k in
-    let args = c.args in
-    let pre = c.requires in
-    let cell-from = c.cell_from-c in
-    let l : loop.k < args.h.count = c.loop-k-test.true in
-    let m : loop.k < length (cells_of args.file.now) = rw (net-length pre) l in
-    let e : cell_at (cells_of args.file.now) loop.k ≡ cell-from.result = net-cell pre loop.k l ∙ sym (cursor-cell pre loop.k l loop.invariant.2 cell-from.ensures) in
-    omega (arith, collects-room args.format (cells_of args.file.now) args.state.now loop.words loop.j loop.k m cell-from.result e loop.invariant.1 c.if-c-eq40.true)
-
-pub loop-k-preserved-then-c-eq40 : goal.loop-k-preserved-then-c-eq40
-loop-k-preserved-then-c-eq40 c =
-    let loop = c.loop-k in
-    let args = c.args in
-    let pre = c.requires in
-    let cell-from = c.cell_from-c in
-    let l : loop.k < args.h.count = c.loop-k-test.true in
-    let m : loop.k < length (cells_of args.file.now) = rw (net-length pre) l in
-    let e : cell_at (cells_of args.file.now) loop.k ≡ cell-from.result = net-cell pre loop.k l ∙ sym (cursor-cell pre loop.k l loop.invariant.2 cell-from.ensures) in (
-      omega arith,
-      rw c.now_at-v.ensures
-          (collects-memory args.format (cells_of args.file.now) args.state.now loop.words loop.j loop.k m cell-from.result e loop.invariant.1 c.if-c-eq40.true),
-      follows loop.k loop.invariant.2 c.next_offset-at.ensures,
-    )
-
 pub loop-k-preserved : goal.loop-k-preserved
 loop-k-preserved c =
     let loop = c.loop-k in
@@ -86,8 +50,14 @@ loop-k-preserved c =
     let cell-from = c.cell_from-c in
     let l : loop.k < args.h.count = c.loop-k-test.true in
     let m : loop.k < length (cells_of args.file.now) = rw (net-length pre) l in
-    let e : cell_at (cells_of args.file.now) loop.k ≡ cell-from.result = net-cell pre loop.k l ∙ sym (cursor-cell pre loop.k l loop.invariant.2 cell-from.ensures) in
-    (omega arith, collects-other args.format (cells_of args.file.now) args.state.now loop.words loop.j loop.k m cell-from.result e loop.invariant.1 c.if-c-eq40.false, follows loop.k loop.invariant.2 c.next_offset-at.ensures)
+    let e : cell_at (cells_of args.file.now) loop.k ≡ cell-from.result = net-cell pre loop.k l ∙ sym (cursor-cell pre loop.k l loop.invariant.2 cell-from.ensures) in (
+      omega arith,
+      elim c.if-c-eq40.branch [
+        | then-c-eq40 w ↦ rw (w.words-is, w.j-is, c.now_at-v.ensures) (collects-memory args.format (cells_of args.file.now) args.state.now loop.words loop.j loop.k m cell-from.result e loop.invariant.1 w.if-c-eq40.true)
+        | else-c-eq40 w ↦ rw (w.words-is, w.j-is) (collects-other args.format (cells_of args.file.now) args.state.now loop.words loop.j loop.k m cell-from.result e loop.invariant.1 w.if-c-eq40.false)
+      ],
+      follows loop.k loop.invariant.2 c.next_offset-at.ensures,
+    )
 
 pub returns : goal.returns
 returns c =

@@ -1,12 +1,9 @@
 -- `words_in` meets its contract: j words are in place, and those of the memories from cell k on, which begins at the cursor, are to come. Assumes nothing.
 use mathlib.Core.Path.{◌≡◌}
-use Prim.Native.Nat.{◌-◌, ◌≤◌}
+use Prim.Native.Nat.{◌≤◌}
 use Rattle.model.specs.NetlistFile.{in_file, cells_of}
 use Rattle.simulator.proofs.Memories.{Collects}
 use Rattle.simulator.proofs.runs.words_in.Given as goal
 
 abbrev pub invariant-loop-k : goal.invariant-loop-k
-invariant-loop-k l = (l.k ≤ l.n) × Collects l.format (cells_of l.file) l.state l.words l.j l.k × (l.at ≡ in_file l.k)
-
-abbrev pub decreases-loop-k : goal.decreases-loop-k
-decreases-loop-k l = l.n - l.k
+invariant-loop-k l = (l.k ≤ l.fn.h.count) × Collects l.format (cells_of l.file) l.state l.words l.j l.k × (l.at ≡ in_file l.k)

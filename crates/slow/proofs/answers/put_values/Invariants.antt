@@ -1,5 +1,5 @@
 -- `put_values` meets its contract: those from cell k on are to come. Assumes nothing.
-use Prim.Native.Nat.{◌-◌, ◌*◌, ◌≤◌}
+use Prim.Native.Nat.{◌-◌, ◌*◌}
 use mathlib.Core.Path.{◌≡◌}
 use lib.ListN.{length}
 use lib.Seq.{sets}
@@ -9,8 +9,5 @@ use Rattle.slow.proofs.answers.put_values.Given as goal
 
 abbrev pub invariant-loop-k : goal.invariant-loop-k
 invariant-loop-k l =
-    (l.k ≤ l.n) × (length l.values ≡ length l.initial.values)
+    (length l.values ≡ length l.initial.values)
     × (sets l.values (2 * l.k) (value_bytes (λ j. word_in l.work j l.t) l.k (l.n - l.k)) ≡ sets l.initial.values 0 (value_bytes (λ j. word_in l.work j l.t) 0 l.n))
-
-abbrev pub decreases-loop-k : goal.decreases-loop-k
-decreases-loop-k l = l.n - l.k

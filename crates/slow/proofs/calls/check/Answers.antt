@@ -4,10 +4,10 @@ use native.Mathlib.Omega.{arith}
 use Rattle.slow.proofs.Calling.{few-cells, passed, at-program, at-budget, at_words, at-values, at-work, at_none}
 use Rattle.slow.proofs.calls.check.Goals as goal
 
-pub returns-in-Refused : goal.returns-in-Refused
-returns-in-Refused c =
+pub returns-in-Err : goal.returns-in-Err
+returns-in-Err c =
     let args = c.args in
-    at-program args.options args.program.now args.words.now args.budget args.values.now args.work.now c.single-one.result c.single-one.ensures (sym c.check-checked.ensures ∙ c.in-Refused.is)
+    at-program args.options args.program.now args.words.now args.budget args.values.now args.work.now c.single-one.result c.single-one.ensures (sym c.check-checked.ensures ∙ c.in-Err.is)
 
 pub returns-then-budget-gt-LAST_INSTANT : goal.returns-then-budget-gt-LAST_INSTANT
 returns-then-budget-gt-LAST_INSTANT c =

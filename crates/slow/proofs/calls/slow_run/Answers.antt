@@ -4,10 +4,10 @@ use Rattle.model.specs.Gates.{ReturnedSlow}
 use Rattle.slow.proofs.Calling.{refused-call, accepted-call}
 use Rattle.slow.proofs.calls.slow_run.Goals as goal
 
-pub returns-in-Refused : goal.returns-in-Refused
-returns-in-Refused c =
+pub returns-in-Err : goal.returns-in-Err
+returns-in-Err c =
     let args = c.args in
-    let e = refused-call args.options args.program.now args.words.now args.budget args.values.now args.work.now (sym c.check-checked.ensures ∙ c.in-Refused.is) in
+    let e = refused-call args.options args.program.now args.words.now args.budget args.values.now args.work.now (sym c.check-checked.ensures ∙ c.in-Err.is) in
     record { answer = c.refused.ensures ∙ sym (ap (λ (t : ReturnedSlow). t.answer) e); values = sym (ap (λ (t : ReturnedSlow). t.values) e); work = sym (ap (λ (t : ReturnedSlow). t.work) e) }
 
 pub run_accepted-requires : goal.run_accepted-requires

@@ -1,8 +1,8 @@
 -- `next_word` meets its contract. Assumes nothing.
 use native.Mathlib.Omega.{arith}
 use mathlib.Core.Path.{sym, ◌∙◌}
-use Rattle.slow.specs.Ring.{time_at}
-use Rattle.slow.proofs.ByKind.{no-operator-low, no-operator-high, next-constant, next_start, next-delay, next-or, next-when-true, next-when-false, next-merge, next-return, next-memory, next-latch, next-gate-open, next-gate-shut, next-operator, next-read, next-still}
+use Rattle.slow.specs.Ring.{word_in, time_at}
+use Rattle.slow.proofs.ByKind.{loaded, no-operator-low, no-operator-high, next-constant, next_start, next-delay, next-or, next-when-true, next-when-false, next-merge, next-return, next-memory, next-latch, next-gate-open, next-gate-shut, next-operator, next-read, next-still}
 use Rattle.slow.proofs.gates.next_word.Goals as goal
 
 pub returns-then-kind-eq1 : goal.returns-then-kind-eq1
@@ -11,76 +11,78 @@ returns-then-kind-eq1 c = sym (next-constant _ _ _ _ _ _ _ c.if-kind-eq1.true)
 pub past-v-requires : goal.past-v-requires
 past-v-requires c =
     let pre = c.requires in
-    let la = pre.2 c.if-kind-eq1.false in
-    (omega (arith, la, pre.0), omega (arith, la, pre.4))
+    let la = pre.1 c.if-kind-eq1.false in
+    (omega (arith, la, c.args.net.now.few), omega (arith, la, pre.3))
 
 pub returns-then-kind-eq34 : goal.returns-then-kind-eq34
 returns-then-kind-eq34 c =
     let args = c.args in
-    cc (next-delay args.work.now args.n args.k args.c args.t (time_at args.times.now args.ors args.k args.c.kind) args.first c.if-kind-eq34.true)
+    cc (next-delay args.work.now args.net.now.n args.k args.c args.t (time_at args.net.now.times.now args.net.now.ors args.k args.c.kind) args.first c.if-kind-eq34.true)
 
-pub memory_word-requires : goal.memory_word-requires
-memory_word-requires c =
-    let pre = c.requires in
-    (pre.0, pre.1, pre.2 c.if-kind-eq1.false, pre.3, pre.4)
+pub has_fallen-loads-requires : goal.has_fallen-loads-requires
+has_fallen-loads-requires c = let la = c.requires.1 c.if-kind-eq1.false in (omega (arith, la, c.args.net.now.few), omega (arith, la, c.requires.3))
+
+pub kept_word-requires : goal.kept_word-requires
+kept_word-requires c = (c.requires.0, c.requires.2, c.requires.3)
 
 pub returns-then-kind-eq40 : goal.returns-then-kind-eq40
-returns-then-kind-eq40 c = c.memory_word.ensures ∙ sym (next-memory _ _ _ _ _ _ _ c.if-kind-eq40.true)
+returns-then-kind-eq40 c = rw c.has_fallen-loads.ensures at c.kept_word.ensures ∙ sym (next-memory _ _ _ _ _ _ _ c.if-kind-eq40.true)
 
-pub latch_word-requires : goal.latch_word-requires
-latch_word-requires c =
-    let pre = c.requires in
-    (pre.0, pre.1, pre.2 c.if-kind-eq1.false, pre.3, pre.4)
+pub past-loads-requires : goal.past-loads-requires
+past-loads-requires c = let la = c.requires.1 c.if-kind-eq1.false in (omega (arith, la, c.args.net.now.few), omega (arith, la, c.requires.3))
 
 pub returns-then-kind-eq45 : goal.returns-then-kind-eq45
-returns-then-kind-eq45 c = c.latch_word.ensures ∙ sym (next-latch _ _ _ _ _ _ _ c.if-kind-eq45.true)
+returns-then-kind-eq45 c =
+    rw c.past-loads.ensures at c.kept_word-then-kind-eq45.ensures
+    ∙ loaded (word_in c.args.work.now c.args.c.a) c.args.t 0 _ _
+    ∙ sym (next-latch _ _ _ _ _ _ _ c.if-kind-eq45.true)
 
 pub returns-then-kind-eq44 : goal.returns-then-kind-eq44
 returns-then-kind-eq44 c =
     let args = c.args in
-    cc (next-read args.work.now args.n args.k args.c args.t (time_at args.times.now args.ors args.k args.c.kind) args.first c.if-kind-eq44.true)
+    cc (next-read args.work.now args.net.now.n args.k args.c args.t (time_at args.net.now.times.now args.net.now.ors args.k args.c.kind) args.first c.if-kind-eq44.true)
 
 pub word_at-x-requires : goal.word_at-x-requires
 word_at-x-requires c =
     let pre = c.requires in
-    let la = pre.2 c.if-kind-eq1.false in
-    (omega (arith, la, pre.0), omega (arith, la, pre.4))
+    let la = pre.1 c.if-kind-eq1.false in
+    (omega (arith, la, c.args.net.now.few), omega (arith, la, pre.3))
 
 pub past-p-requires : goal.past-p-requires
 past-p-requires c =
     let pre = c.requires in
-    let la = pre.2 c.if-kind-eq1.false in
-    (omega (arith, la, pre.0), omega (arith, la, pre.4))
+    let la = pre.1 c.if-kind-eq1.false in
+    (omega (arith, la, c.args.net.now.few), omega (arith, la, pre.3))
 
 pub returns-in-32 : goal.returns-in-32
 returns-in-32 c =
     let args = c.args in
-    cc (next_start args.work.now args.n args.k args.c args.t (time_at args.times.now args.ors args.k args.c.kind) args.first c.in-32.is)
+    cc (next_start args.work.now args.net.now.n args.k args.c args.t (time_at args.net.now.times.now args.net.now.ors args.k args.c.kind) args.first c.in-32.is)
 
 pub returns-in-35 : goal.returns-in-35
 returns-in-35 c =
     let args = c.args in
-    cc (next-or args.work.now args.n args.k args.c args.t (time_at args.times.now args.ors args.k args.c.kind) args.first c.in-35.is)
+    cc (next-or args.work.now args.net.now.n args.k args.c args.t (time_at args.net.now.times.now args.net.now.ors args.k args.c.kind) args.first c.in-35.is)
 
 pub returns-in-36 : goal.returns-in-36
 returns-in-36 c =
     let args = c.args in
-    cc (next-when-true args.work.now args.n args.k args.c args.t (time_at args.times.now args.ors args.k args.c.kind) args.first c.in-36.is)
+    cc (next-when-true args.work.now args.net.now.n args.k args.c args.t (time_at args.net.now.times.now args.net.now.ors args.k args.c.kind) args.first c.in-36.is)
 
 pub returns-in-37 : goal.returns-in-37
 returns-in-37 c =
     let args = c.args in
-    cc (next-when-false args.work.now args.n args.k args.c args.t (time_at args.times.now args.ors args.k args.c.kind) args.first c.in-37.is)
+    cc (next-when-false args.work.now args.net.now.n args.k args.c args.t (time_at args.net.now.times.now args.net.now.ors args.k args.c.kind) args.first c.in-37.is)
 
 pub returns-in-38 : goal.returns-in-38
 returns-in-38 c =
     let args = c.args in
-    cc (next-merge args.work.now args.n args.k args.c args.t (time_at args.times.now args.ors args.k args.c.kind) args.first c.in-38.is)
+    cc (next-merge args.work.now args.net.now.n args.k args.c args.t (time_at args.net.now.times.now args.net.now.ors args.k args.c.kind) args.first c.in-38.is)
 
 pub returns-in-39 : goal.returns-in-39
 returns-in-39 c =
     let args = c.args in
-    cc (next-return args.work.now args.n args.k args.c args.t (time_at args.times.now args.ors args.k args.c.kind) args.first c.in-39.is)
+    cc (next-return args.work.now args.net.now.n args.k args.c args.t (time_at args.net.now.times.now args.net.now.ors args.k args.c.kind) args.first c.in-39.is)
 
 pub returns-then-x-eq1 : goal.returns-then-x-eq1
 returns-then-x-eq1 c = c.word_at-y.ensures ∙ sym (next-gate-open _ _ _ _ _ _ _ c.in-41.is (sym c.word_at-x.ensures ∙ c.if-x-eq1.true))
@@ -91,7 +93,7 @@ returns-else-x-eq1 c = sym (next-gate-shut _ _ _ _ _ _ _ c.in-41.is (λ e. c.if-
 pub returns-in-3-to-9 : goal.returns-in-3-to-9
 returns-in-3-to-9 c =
     let args = c.args in
-    cc (next-operator args.work.now args.n args.k args.c args.t (time_at args.times.now args.ors args.k args.c.kind) args.first (omega arith) (omega arith))
+    cc (next-operator args.work.now args.net.now.n args.k args.c args.t (time_at args.net.now.times.now args.net.now.ors args.k args.c.kind) args.first (omega arith) (omega arith))
 
 pub returns-in_default : goal.returns-in_default
 returns-in_default c =

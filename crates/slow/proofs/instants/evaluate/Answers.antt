@@ -21,23 +21,21 @@ prepare-requires c =
     let w = start.requires.0 in
     let l = start.requires.2 in
     let e = c.cell_at-c.ensures in (
-      w.few,
-      w.list,
       l,
-      sees-read args.cells.now args.n args.k l w.ordered _ e,
-      next-read args.cells.now args.n args.k l w.ordered _ e,
+      sees-read args.net.now.cells.now args.net.now.n args.k l w.ordered _ e,
+      next-read args.net.now.cells.now args.net.now.n args.k l w.ordered _ e,
       w.room,
     )
 
 pub overflow_mul-memory : goal.overflow_mul-memory
 overflow_mul-memory c =
     let start = c in
-    omega (arith, start.requires.3, memories-few (net_of start.args.cells.now start.args.n) start.args.k, start.requires.0.sixteen)
+    omega (arith, start.requires.3, memories-few (net_of start.args.net.now.cells.now start.args.net.now.n) start.args.k, start.requires.0.sixteen)
 
 pub get16-first-requires : goal.get16-first-requires
 get16-first-requires c =
     let start = c in
-    omega (arith, start.requires.3, memories-few (net_of start.args.cells.now start.args.n) start.args.k, start.requires.0.sixteen, start.requires.0.starts)
+    omega (arith, start.requires.3, memories-few (net_of start.args.net.now.cells.now start.args.net.now.n) start.args.k, start.requires.0.sixteen, start.requires.0.starts)
 
 pub next_word-v-requires : goal.next_word-v-requires
 next_word-v-requires c =
@@ -45,8 +43,7 @@ next_word-v-requires c =
     let args = start.args in
     let w = start.requires.0 in
     let l = start.requires.2 in
-    let sees = sees-read args.cells.now args.n args.k l w.ordered _ c.cell_at-c.ensures in (
-      w.few,
+    let sees = sees-read args.net.now.cells.now args.net.now.n args.k l w.ordered _ c.cell_at-c.ensures in (
       l,
       sees.a,
       sees.b,
@@ -59,7 +56,7 @@ overflow_add-result c =
     omega (
       arith,
       start.requires.3,
-      memories-few (net_of start.args.cells.now start.args.n) start.args.k,
+      memories-few (net_of start.args.net.now.cells.now start.args.net.now.n) start.args.k,
       start.requires.0.sixteen,
       c.bit.ensures,
       bit_le (eqb c.cell_at-c.result.kind 40),
@@ -71,26 +68,25 @@ returns c =
     let args = start.args in
     let w = start.requires.0 in
     let l = start.requires.2 in
-    let net = net_of args.cells.now args.n in
-    let known = c.type_inv.times in
-    let small : (i : ℕ) → get_or args.times.now i 0 < 256 = λ i. omega (arith, known i) in
-    let is : cell_at net args.k ≡ c.cell_at-c.result = is-cell args.cells.now args.n args.k l w.ordered _ c.cell_at-c.ensures in
+    let net = net_of args.net.now.cells.now args.net.now.n in
+    let small : (i : ℕ) → get_or args.net.now.times.now i 0 < 256 = args.net.now.short in
+    let is : cell_at net args.k ≡ c.cell_at-c.result = is-cell args.net.now.cells.now args.net.now.n args.k l w.ordered _ c.cell_at-c.ensures in
     let s₁ = c.prepare.new.work in
-    let p : Prepared args.cells.now args.n args.k (cell_at net args.k) args.t args.work.now s₁ = rw is c.prepare.ensures in
-    let m = memories-next net args.k (omega (arith, l, net-length args.cells.now args.n)) in
+    let p : Prepared args.net.now.cells.now args.net.now.n args.k (cell_at net args.k) args.t args.work.now s₁ = rw is c.prepare.ensures in
+    let m = memories-next net args.k (omega (arith, l, net-length args.net.now.cells.now args.net.now.n)) in
     let k40 = ap (λ (x : Cell). bit (eqb x.kind 40)) is in
     let read = c.cell_at-c.result in
-    let first-is : c.get16-first.result ≡ start_word net (word_at args.words.now) args.k =
-    c.get16-first.ensures ∙ ap (λ (x : ℕ). word_at args.words.now x) start.requires.3 in
+    let first-is : c.get16-first.result ≡ start_word net (word_at args.net.now.words.now) args.k =
+    c.get16-first.ensures ∙ ap (λ (x : ℕ). word_at args.net.now.words.now x) start.requires.3 in
     let right = rw is at
-    (value-right args.cells.now args.n args.ors args.times.now args.words.now small w.ordered args.t args.k l args.work.now s₁ start.requires.1 p
+    (value-right args.net.now.cells.now args.net.now.n args.net.now.ors args.net.now.times.now args.net.now.words.now small w.ordered args.t args.k l args.work.now s₁ start.requires.1 p
     w.room) in
-    let value : c.next_word-v.result ≡ values_of args.cells.now args.n args.ors args.times.now args.words.now args.k args.t =
+    let value : c.next_word-v.result ≡ values_of args.net.now.cells.now args.net.now.n args.net.now.ors args.net.now.times.now args.net.now.words.now args.k args.t =
     c.next_word-v.ensures
-    ∙ ap (λ (x : ℕ). shown_in (shape read.kind) s₁ args.n args.k read args.t (time_at args.times.now args.ors args.k read.kind) x) first-is
+    ∙ ap (λ (x : ℕ). shown_in (shape read.kind) s₁ args.net.now.n args.k read args.t (time_at args.net.now.times.now args.net.now.ors args.k read.kind) x) first-is
     ∙ right in record {
       memory = omega (arith, m, k40, c.bit.ensures, start.requires.3);
       kept = rw c.put_word.ensures
-          (evaluated args.cells.now args.n args.ors args.times.now args.words.now small w.ordered args.t args.k l args.work.now s₁ start.requires.1 p
+          (evaluated args.net.now.cells.now args.net.now.n args.net.now.ors args.net.now.times.now args.net.now.words.now small w.ordered args.t args.k l args.work.now s₁ start.requires.1 p
           w.room c.next_word-v.result value);
     }

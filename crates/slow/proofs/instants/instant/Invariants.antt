@@ -1,5 +1,4 @@
 -- `instant` meets its contract: the cells below k have been evaluated. Assumes nothing.
-use Prim.Native.Nat.{◌-◌, ◌≤◌}
 use mathlib.Core.Path.{◌≡◌}
 use lib.ListN.{length, take}
 use Rattle.model.specs.Circuit.{memories}
@@ -8,7 +7,4 @@ use Rattle.slow.proofs.instants.instant.Given as goal
 
 abbrev pub invariant-loop-k : goal.invariant-loop-k
 invariant-loop-k l =
-    (l.k ≤ l.n) × (length l.work ≡ length l.initial.work) × (l.memory ≡ memories (take l.k (net_of l.cells l.n))) × KeptIn l.cells l.n l.ors l.times l.words l.t l.k l.work
-
-abbrev pub decreases-loop-k : goal.decreases-loop-k
-decreases-loop-k l = l.n - l.k
+    (length l.work ≡ length l.initial.work) × (l.memory ≡ memories (take l.k (net_of l.net.cells.now l.net.n))) × KeptIn l.net.cells.now l.net.n l.net.ors l.net.times.now l.net.words.now l.t l.k l.work

@@ -12,9 +12,6 @@ use Rattle.state.proofs.Files.{file-cell, file-sized, file-stands, file-ordered}
 use Rattle.state.proofs.Counting.{flight-here, flight-none}
 use Rattle.state.proofs.flight.flight.Goals as goal
 
-pub loop-k-init : goal.loop-k-init
-loop-k-init c = (omega arith, omega arith)
-
 pub cell_at-c-requires : goal.cell_at-c-requires
 cell_at-c-requires c =
     let args = c.args in
@@ -40,7 +37,7 @@ overflow_add-sum c =
     let cell : cell_at (net_of file).cells loop.k ≡ c.cell_at-c.result = file-cell file loop.k l ∙ sym c.cell_at-c.ensures in
     let inflight = c.in_flight-sum.ensures ∙ ap (λ (d : ℕ). in_flight (line_bit args.format args.s.now loop.k d) (held_at args.format args.s.now loop.k) (remaining_at args.format args.s.now loop.k) c.cell_at-c.result) (ap (λ (x : Cell). x.delay) (sym cell)) in
     let here = flight-here (line_at args.format (net_of file) args.s.now) (held_at args.format args.s.now) (remaining_at args.format args.s.now) (net_of file).cells loop.k (rw (count-cells file) l) c.cell_at-c.result (file-cell file loop.k l ∙ sym c.cell_at-c.ensures) in
-    omega (arith, loop.invariant.1, here, inflight, low, count-cells file, (file-sized args.format file args.s.now pre.0).few)
+    omega (arith, loop.invariant, here, inflight, low, count-cells file, (file-sized args.format file args.s.now pre.0).few)
 
 pub loop-k-preserved : goal.loop-k-preserved
 loop-k-preserved c =
@@ -52,7 +49,7 @@ loop-k-preserved c =
     let cell : cell_at (net_of file).cells loop.k ≡ c.cell_at-c.result = file-cell file loop.k l ∙ sym c.cell_at-c.ensures in
     let inflight = c.in_flight-sum.ensures ∙ ap (λ (d : ℕ). in_flight (line_bit args.format args.s.now loop.k d) (held_at args.format args.s.now loop.k) (remaining_at args.format args.s.now loop.k) c.cell_at-c.result) (ap (λ (x : Cell). x.delay) (sym cell)) in
     let here = flight-here (line_at args.format (net_of file) args.s.now) (held_at args.format args.s.now) (remaining_at args.format args.s.now) (net_of file).cells loop.k (rw (count-cells file) l) c.cell_at-c.result (file-cell file loop.k l ∙ sym c.cell_at-c.ensures) in
-    (omega arith, omega (arith, loop.invariant.1, here, inflight))
+    omega (arith, loop.invariant, here, inflight)
 
 pub returns : goal.returns
 returns c =
@@ -61,4 +58,4 @@ returns c =
     let file = args.file.now in
     let loop = c.loop-k in
     let end = flight-none (line_at args.format (net_of file) args.s.now) (held_at args.format args.s.now) (remaining_at args.format args.s.now) (net_of file).cells loop.k (omega (arith, pre.1, count-cells file)) in
-    omega (arith, loop.invariant.1, end)
+    omega (arith, loop.invariant, end)

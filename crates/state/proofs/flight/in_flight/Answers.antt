@@ -14,7 +14,7 @@ returns-then-is_merge c =
     c.held_bits.ensures ∙ ap held_bits c.held_at.ensures ∙ sym (merge-flight _ _ _ _ if1.false merge)
 
 pub returns-then-kind-eq32 : goal.returns-then-kind-eq32
-returns-then-kind-eq32 c = c.remaining_at.ensures ∙ sym (start-flight _ _ _ _ c.if-kind-eq32.true)
+returns-then-kind-eq32 c = c.from.ensures ∙ c.remaining_at.ensures ∙ sym (start-flight _ _ _ _ c.if-kind-eq32.true)
 
 pub returns : goal.returns
 returns c = sym (none-flight _ _ _ _ c.if-kind-eq34.false (sym c.is_merge.ensures ∙ c.if-is_merge.false) c.if-kind-eq32.false)

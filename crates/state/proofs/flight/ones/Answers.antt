@@ -1,50 +1,25 @@
 -- `ones` meets its contract: the sum so far is the ones of whole bytes. Assumes nothing.
-use native.Mathlib.Omega.{arith}
-use lib.Pow.{pow_pos}
-use Rattle.state.proofs.Counting.{counts-none, counts-byte, counts-more, mask, counts-rest, counts_all}
+use Rattle.std.proofs.Common.{◌≡◌, ◌<◌, get_or, ◌+◌, ◌/◌, refl, arith}
+use Rattle.model.specs.State.{ones}
+use Rattle.state.proofs.Counting.{byte-few, byte-more, rest-more}
 use Rattle.state.proofs.flight.ones.Goals as goal
 
-pub loop-left-init : goal.loop-left-init
-loop-left-init c = rw c.base-at.ensures (counts-none _ _ _)
+pub loop-i-init : goal.loop-i-init
+unfolding ones
+loop-i-init c = (omega arith, refl)
 
-pub bounds-s-at : goal.bounds-s-at
-bounds-s-at c =
-    let pre = c.requires in
-    let loop = c.loop-left in
-    omega (arith, pre, loop.invariant.place, loop.invariant.rest)
-
-pub overflow_add-sum : goal.overflow_add-sum
-overflow_add-sum c =
-    let loop = c.loop-left in
-    let shared-slice-known = c.shared_slice_known-1 in
-    omega (arith, loop.invariant.low, loop.invariant.rest, counts-byte loop.invariant (omega (arith, shared-slice-known.given loop.at)))
-
-pub overflow_add-at-in-loop-left : goal.overflow_add-at-in-loop-left
-overflow_add-at-in-loop-left c =
-    let loop = c.loop-left in
-    omega (arith, loop.invariant.place, loop.invariant.rest)
-
-pub loop-left-preserved : goal.loop-left-preserved
-loop-left-preserved c =
-    let loop = c.loop-left in
-    let shared-slice-known = c.shared_slice_known-1 in
-    counts-more loop.invariant c.loop-left-test.true (omega (arith, shared-slice-known.given loop.at))
-
-pub bounds-s-at-2 : goal.bounds-s-at-2
-bounds-s-at-2 c =
-    let pre = c.requires in
-    let loop = c.loop-left in
-    omega (arith, pre, loop.invariant.place, loop.invariant.rest)
-
-pub nonzero_rem-result : goal.nonzero_rem-result
-nonzero_rem-result c =
-    let loop = c.loop-left in
-    rw (mask loop.invariant (omega arith)) (pow_pos loop.left)
-
-pub overflow_add-result : goal.overflow_add-result
-overflow_add-result c =
-    let loop = c.loop-left in
-    omega (arith, loop.invariant.low, loop.invariant.rest, counts-rest loop.invariant (omega arith))
+pub loop-i-preserved : goal.loop-i-preserved
+loop-i-preserved c =
+    let args = c.args in
+    let loop = c.loop-i in
+    let at = c.base-at.result + 8 + loop.i in
+    let b = get_or args.s.now at 0 in
+    let range : b < 256 = omega (arith, c.type_inv.s at) in
+    (omega (arith, loop.invariant.0, byte-few b range), rw c.base-at.ensures (byte-more args.s.now args.k args.d loop.i loop.invariant.1 (rw c.base-at.ensures at range)))
 
 pub returns : goal.returns
-returns c = counts_all c.loop-left.invariant (omega arith)
+returns c =
+    let args = c.args in
+    let loop = c.loop-i in
+    let e : loop.i ≡ args.d / 8 = omega (arith, c.from-whole.ensures) in
+    rw (c.base-at.ensures, c.from-whole.ensures) (rest-more args.s.now args.k args.d (args.d / 8) (rw e at loop.invariant.1) (omega arith) (omega arith))

@@ -1,9 +1,8 @@
 -- `ones` meets its contract: the sum so far is the ones of whole bytes. Assumes nothing.
-use Rattle.state.proofs.Counting.{Counts}
+use Rattle.std.proofs.Common.{◌≡◌, ◌*◌, ◌≤◌}
+use Rattle.model.specs.declared.Format.TheVariants.{Full}
+use Rattle.model.specs.State.{line_bit, ones}
 use Rattle.state.proofs.flight.ones.Given as goal
 
-abbrev pub invariant-loop-left : goal.invariant-loop-left
-invariant-loop-left l = Counts l.s l.k l.d l.at l.left l.sum
-
-abbrev pub decreases-loop-left : goal.decreases-loop-left
-decreases-loop-left l = l.left
+abbrev pub invariant-loop-i : goal.invariant-loop-i
+invariant-loop-i l = (l.sum ≤ 8 * l.i) × (l.sum ≡ ones (line_bit Full l.s l.k l.d) (8 * l.i))

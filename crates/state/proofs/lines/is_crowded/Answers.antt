@@ -2,16 +2,10 @@
 use mathlib.Core.Bool.{Bool, ◌&&◌}
 use mathlib.Core.Path.{◌∙◌, ap}
 use Prim.Native.Nat.{◌+◌}
-use native.Mathlib.Omega.{arith}
 use lib.Dec.{ltb}
 use lib.ListN.{get_or}
 use Rattle.state.proofs.Places.{full-room, counter-room}
 use Rattle.state.proofs.lines.is_crowded.Goals as goal
-
-pub is_high-x-requires : goal.is_high-x-requires
-is_high-x-requires c =
-    let pre = c.requires in
-    pre.1.a (λ e. omega (arith, pre.2))
 
 pub returns-in-Full : goal.returns-in-Full
 returns-in-Full c =

@@ -1,21 +1,7 @@
 -- `line_out` meets its contract. Assumes nothing.
-use mathlib.Core.Path.{◌≡◌, ◌∙◌}
-use native.Mathlib.Omega.{arith}
-use Rattle.model.specs.declared.Format.TheVariants.{Full}
-use Rattle.model.specs.State.{base}
-use Rattle.state.specs.Stands.{Stands}
+use mathlib.Core.Path.{◌∙◌}
 use Rattle.state.proofs.Places.{full-out, counter-out}
 use Rattle.state.proofs.lines.line_out.Goals as goal
-
-pub oldest-requires : goal.oldest-requires
-oldest-requires c =
-    let args = c.args in
-    let pre = c.requires in
-    let base-call = c.base-at in
-    let stands : Stands args.format args.state.now args.k = pre.0 in
-    let at : base-call.result ≡ base Full args.k = rw c.in-Full.is at base-call.ensures in
-    let full : Stands Full args.state.now args.k = rw c.in-Full.is at stands in
-    (omega (arith, at, full.room), pre.1)
 
 pub returns-in-Full : goal.returns-in-Full
 returns-in-Full c =

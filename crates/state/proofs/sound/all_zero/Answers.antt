@@ -1,25 +1,12 @@
--- `all_zero` meets its contract: the bytes that are left are all zero if and only if all are. Assumes nothing.
-use mathlib.Core.Path.{refl, sym, ◌∙◌}
-use native.Mathlib.Omega.{arith}
-use Rattle.state.proofs.Soundness.{zero-here, set_here, zero-none}
+-- all_zero: each byte is zero. Assumes nothing.
+use Rattle.std.proofs.Common.{◌≡◌, ◌+◌, ◌-◌, eqb, take, drop, sym, ◌∙◌, arith, rules, tests}
+use Rattle.std.proofs.lemmas.Iterator.{YieldsList-from_slice}
+use Rattle.std.proofs.lemmas.Iterator.Search.{all_from_yields_List}
+use Rattle.state.proofs.Soundness.{zeros_all}
 use Rattle.state.proofs.sound.all_zero.Goals as goal
-
-pub loop-left-init : goal.loop-left-init
-loop-left-init c = (refl, refl)
-
-pub returns-then-s-at-ne0 : goal.returns-then-s-at-ne0
-returns-then-s-at-ne0 c =
-    let args = c.args in
-    let loop = c.loop-left in
-    sym (set_here args.s.now loop.at loop.left c.loop-left-test.true (omega arith) c.if-s-at-ne0.true) ∙ loop.invariant.1
-
-pub loop-left-preserved : goal.loop-left-preserved
-loop-left-preserved c =
-    let args = c.args in
-    let loop = c.loop-left in
-    (omega arith, sym (zero-here args.s.now loop.at loop.left c.loop-left-test.true (omega arith) c.if-s-at-ne0.false) ∙ loop.invariant.1)
 
 pub returns : goal.returns
 returns c =
-    let loop = c.loop-left in
-    sym (zero-none _ loop.left (omega arith)) ∙ loop.invariant.1
+    let part = take c.args.n (drop c.args.i c.args.s.now) in
+    let n : c.args.i + c.args.n - c.args.i ≡ c.args.n = omega arith in
+    all_from_yields_List (λ b. eqb b 0) _ _ _ c.all.ensures.ran (YieldsList-from_slice part (rw n at c.iter.ensures.rest)) (λ x b q k. search (rules, tests)) ∙ sym (zeros_all part)

@@ -1,6 +1,6 @@
 -- `cells_sound` meets its contract: the cells that are left are sound if and only if all are. Assumes nothing.
 use mathlib.Core.List.{List}
-use mathlib.Core.Path.{refl, sym, ◌∙◌, ap}
+use mathlib.Core.Path.{sym, ◌∙◌, ap}
 use Prim.Native.Nat.{ℕ, ◌<◌}
 use native.Mathlib.Omega.{arith}
 use Rattle.model.specs.NetlistFile.{count_of, pulse_of, cells_of}
@@ -10,9 +10,6 @@ use Rattle.netlist.proofs.Headers.{header-count, header-pulse}
 use Rattle.state.proofs.Files.{file-cell, file-sized, file-stands}
 use Rattle.state.proofs.Soundness.{sound-here, unsound-here, sound_none}
 use Rattle.state.proofs.sound.cells_sound.Goals as goal
-
-pub loop-k-init : goal.loop-k-init
-loop-k-init c = (omega arith, refl)
 
 pub cell_at-c-requires : goal.cell_at-c-requires
 cell_at-c-requires c =
@@ -39,7 +36,7 @@ returns-then-not-cell_sound c =
     (unsound-here (pulse_of file) args.format (cells_of file) args.s.now loop.k (rw (count-cells file) l) cell-at.result
     (file-cell file loop.k l ∙ sym cell-at.ensures)
     (ap (λ (w : ℕ). cell_sound args.format w cell-at.result args.s.now loop.k) (sym (header-pulse file pre.1)) ∙ sym c.cell_sound.ensures ∙ c.if-not-cell_sound.true))
-    ∙ loop.invariant.1
+    ∙ loop.invariant
 
 pub loop-k-preserved : goal.loop-k-preserved
 loop-k-preserved c =
@@ -48,14 +45,12 @@ loop-k-preserved c =
     let loop = c.loop-k in
     let cell-at = c.cell_at-c in
     let file : List ℕ = args.file.now in
-    let l : loop.k < count_of file = omega (arith, header-count file pre.1) in (
-      omega arith,
-      sym
-          (sound-here (pulse_of file) args.format (cells_of file) args.s.now loop.k (rw (count-cells file) l) cell-at.result
-          (file-cell file loop.k l ∙ sym cell-at.ensures)
-          (ap (λ (w : ℕ). cell_sound args.format w cell-at.result args.s.now loop.k) (sym (header-pulse file pre.1)) ∙ sym c.cell_sound.ensures ∙ c.if-not-cell_sound.false))
-          ∙ loop.invariant.1,
-    )
+    let l : loop.k < count_of file = omega (arith, header-count file pre.1) in
+    sym
+    (sound-here (pulse_of file) args.format (cells_of file) args.s.now loop.k (rw (count-cells file) l) cell-at.result
+    (file-cell file loop.k l ∙ sym cell-at.ensures)
+    (ap (λ (w : ℕ). cell_sound args.format w cell-at.result args.s.now loop.k) (sym (header-pulse file pre.1)) ∙ sym c.cell_sound.ensures ∙ c.if-not-cell_sound.false))
+    ∙ loop.invariant
 
 pub returns : goal.returns
 returns c =
@@ -63,4 +58,4 @@ returns c =
     let args = c.args in
     let loop = c.loop-k in
     let file : List ℕ = args.file.now in
-    sym (sound_none (pulse_of file) args.format (cells_of file) args.s.now loop.k (omega (arith, header-count file pre.1, count-cells file))) ∙ loop.invariant.1
+    sym (sound_none (pulse_of file) args.format (cells_of file) args.s.now loop.k (omega (arith, header-count file pre.1, count-cells file))) ∙ loop.invariant

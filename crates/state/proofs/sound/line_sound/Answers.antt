@@ -1,37 +1,14 @@
 -- `line_sound` meets its contract. Assumes nothing.
-use Rattle.state.specs.Stands.{Stands}
 use mathlib.Core.Path.{◌≡◌, ◌∙◌}
 use lib.Dec.{eqb}
 use borrow.Author.Tests.{eq-eqb, ne_eqb}
 use Rattle.model.specs.Word.{pick}
-use Rattle.model.specs.declared.Format.TheVariants.{Full, Compact}
-use Rattle.model.specs.State.{base, most_left}
+use Rattle.model.specs.declared.Format.TheVariants.{Compact}
+use Rattle.model.specs.State.{most_left}
 use Rattle.state.proofs.Places.{left_here}
 use Rattle.state.proofs.Soundness.{full-line, compact-line}
-use native.Mathlib.Omega.{arith}
 use Rattle.state.proofs.sound.line_sound.Goals as goal
 use Rattle.state.proofs.sound.line_sound.Goals.{then-kind-eq34, else-kind-eq34}
-
-pub all_zero-line-requires : goal.all_zero-line-requires
-all_zero-line-requires c =
-    let base-call = c.base-at in
-    let args = c.args in
-    let pre = c.requires in
-    let at : base-call.result ≡ base Full args.k = rw c.in-Full.is at base-call.ensures in
-    let stands : Stands args.format args.s.now args.k = pre in
-    let full : Stands Full args.s.now args.k = rw c.in-Full.is at stands in
-    omega (arith, at, full.room)
-
-pub bounds-s-at : goal.bounds-s-at
-bounds-s-at c =
-    let base-call = c.base-at in
-    let args = c.args in
-    let enum_told = c.in-Full in
-    let pre = c.requires in
-    let at : base-call.result ≡ base Full args.k = rw c.in-Full.is at base-call.ensures in
-    let stands : Stands args.format args.s.now args.k = pre in
-    let full : Stands Full args.s.now args.k = rw c.in-Full.is at stands in
-    omega (arith, at, full.room)
 
 pub returns-in-Full : goal.returns-in-Full
 returns-in-Full c =

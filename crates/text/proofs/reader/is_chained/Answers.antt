@@ -5,7 +5,5 @@ use Rattle.text.proofs.reader.is_chained.Goals as goal
 
 pub returns : goal.returns
 returns c =
-    let args = c.args in
     let pop = c.pop-p in
-    let top-code = c.top_code-top in
-    λ n r h. rw (popped-shown h 7 pop.ensures (top-code.ensures args.starts.now)) refl
+    λ n r h. rw (popped-shown h 7 pop.ensures c.top-top.ensures.code) refl

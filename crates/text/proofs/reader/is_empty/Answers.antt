@@ -5,5 +5,5 @@ use Rattle.text.proofs.reader.is_empty.Goals as goal
 pub returns : goal.returns
 returns c =
     let args = c.args in
-    let pop = c.pop-p in
-    empty-shown args.codes.now args.starts.now args.height pop.ensures
+    let pop = c.pop in
+    empty-shown args.stack.now args.height pop.ensures

@@ -10,7 +10,7 @@ returns-then-is_chained c =
     let if1 = c.if-c in
     let if2 = c.if-is_chained in
     let is-chained = c.is_chained in
-    let broken = c.broken in record {
+    record {
       grows = omega (arith, c.broken.ensures.grows);
       follows = (λ r w h.
           rw (operator-chained args.t r if1.true (sym (is-chained.ensures args.nodes.now r h) ∙ if2.true)) (c.broken.ensures.follows _ r h));
@@ -22,7 +22,7 @@ returns-then-c c =
     let if1 = c.if-c in
     let if2 = c.if-is_chained in
     let is-chained = c.is_chained in
-    let between = c.between in record {
+    record {
       grows = c.between.ensures.grows;
       follows = (λ r w h.
           rw (operator-joins args.t r if1.true (sym (is-chained.ensures args.nodes.now r h) ∙ if2.false)) (c.between.ensures.follows r w h));
@@ -34,13 +34,12 @@ returns-then-c-top c =
     let if1 = c.if-c in
     let if3 = c.if-c-top in
     let settled = c.settled-s in
-    let top-code = c.top_code-top in
-    let closed = c.closed in record {
+    record {
       grows = omega (arith, settled.ensures.grows, c.closed.ensures.grows);
       follows = (λ r w h.
           let h' = settled.ensures.follows args.nodes.now r h in
-          let top = top-shown h' (top-code.ensures args.starts.now) in
-          rw (operand-closed args.t r top if1.false if3.true) (c.closed.ensures.follows args.codes.now args.nodes.now (model.reduced r) h'));
+          let top = top-shown h' c.top-top.ensures.code in
+          rw (operand-closed args.t r top if1.false if3.true) (c.closed.ensures.follows args.nodes.now (model.reduced r) h'));
     }
 
 pub returns-then-c-top-2 : goal.returns-then-c-top-2
@@ -50,12 +49,11 @@ returns-then-c-top-2 c =
     let if3 = c.if-c-top in
     let if4 = c.if-c-top-2 in
     let settled = c.settled-s in
-    let top-code = c.top_code-top in
-    let in-mode = c.in_mode in record {
+    record {
       grows = omega (arith, settled.ensures.grows, c.in_mode.ensures.grows);
       follows = (λ r w h.
           let h' = settled.ensures.follows args.nodes.now r h in
-          let top = top-shown h' (top-code.ensures args.starts.now) in
+          let top = top-shown h' c.top-top.ensures.code in
           rw (operand-timed args.t r top if1.false if3.false if4.true) (c.in_mode.ensures.follows _ (model.reduced r) h'));
     }
 
@@ -66,11 +64,10 @@ returns c =
     let if3 = c.if-c-top in
     let if4 = c.if-c-top-2 in
     let settled = c.settled-s in
-    let top-code = c.top_code-top in
-    let broken2 = c.broken-2 in record {
+    record {
       grows = omega (arith, c.broken-2.ensures.grows);
       follows = (λ r w h.
           let h' = settled.ensures.follows args.nodes.now r h in
-          let top = top-shown h' (top-code.ensures args.starts.now) in
+          let top = top-shown h' c.top-top.ensures.code in
           rw (operand-ended args.t r top if1.false if3.false if4.false) (c.broken-2.ensures.follows _ r h));
     }

@@ -17,13 +17,12 @@ returns-then-c-top c =
     let if1 = c.if-c in
     let if2 = c.if-c-top in
     let settled = c.settled-s in
-    let top-code = c.top_code-top in
-    let closed = c.closed in record {
+    record {
       grows = omega (arith, settled.ensures.grows, c.closed.ensures.grows);
       follows = (λ r w h.
           let h' = settled.ensures.follows args.nodes.now r h in
-          let top = top-shown h' (top-code.ensures args.starts.now) in
-          rw (statement-closed args.t r top if1.false if2.true) (c.closed.ensures.follows args.codes.now args.nodes.now (model.reduced r) h'));
+          let top = top-shown h' c.top-top.ensures.code in
+          rw (statement-closed args.t r top if1.false if2.true) (c.closed.ensures.follows args.nodes.now (model.reduced r) h'));
     }
 
 pub returns-then-c-top-2 : goal.returns-then-c-top-2
@@ -33,12 +32,11 @@ returns-then-c-top-2 c =
     let if2 = c.if-c-top in
     let if3 = c.if-c-top-2 in
     let settled = c.settled-s in
-    let top-code = c.top_code-top in
-    let turned = c.turned in record {
+    record {
       grows = omega (arith, settled.ensures.grows, c.turned.ensures.grows);
       follows = (λ r w h.
           let h' = settled.ensures.follows args.nodes.now r h in
-          let top = top-shown h' (top-code.ensures args.starts.now) in
+          let top = top-shown h' c.top-top.ensures.code in
           rw (statement-else args.t r top if1.false if2.false if3.true) (c.turned.ensures.follows args.nodes.now (model.reduced r) h'));
     }
 
@@ -50,13 +48,12 @@ returns-then-c-top-3 c =
     let if3 = c.if-c-top-2 in
     let if4 = c.if-c-top-3 in
     let settled = c.settled-s in
-    let top-code = c.top_code-top in
-    let closed2 = c.closed-then-c-top-3 in record {
+    record {
       grows = omega (arith, settled.ensures.grows, c.closed-then-c-top-3.ensures.grows);
       follows = (λ r w h.
           let h' = settled.ensures.follows args.nodes.now r h in
-          let top = top-shown h' (top-code.ensures args.starts.now) in
-          rw (statement-end args.t r top if1.false if2.false if3.false if4.true) (c.closed-then-c-top-3.ensures.follows args.codes.now args.nodes.now (model.reduced r) h'));
+          let top = top-shown h' c.top-top.ensures.code in
+          rw (statement-end args.t r top if1.false if2.false if3.false if4.true) (c.closed-then-c-top-3.ensures.follows args.nodes.now (model.reduced r) h'));
     }
 
 pub returns-then-c-top-4 : goal.returns-then-c-top-4
@@ -68,13 +65,12 @@ returns-then-c-top-4 c =
     let if4 = c.if-c-top-3 in
     let if5 = c.if-c-top-4 in
     let settled = c.settled-s in
-    let top-code = c.top_code-top in
-    let turned2 = c.turned-then-c-top-4 in record {
+    record {
       grows = omega (arith, settled.ensures.grows, c.rewound-u.ensures.grows, c.turned-then-c-top-4.ensures.grows);
       follows = (λ r w h.
           let h' = settled.ensures.follows args.nodes.now r h in
-          let top = top-shown h' (top-code.ensures args.starts.now) in
-          let u = c.rewound-u.ensures.follows args.codes.now args.nodes.now (model.reduced r) (within-settled r w) h' in
+          let top = top-shown h' c.top-top.ensures.code in
+          let u = c.rewound-u.ensures.follows args.nodes.now (model.reduced r) (within-settled r w) h' in
           rw (statement-until args.t r top if1.false if2.false if3.false if4.false if5.true)
           (c.turned-then-c-top-4.ensures.follows args.nodes.now _ u));
     }
@@ -88,11 +84,10 @@ returns c =
     let if4 = c.if-c-top-3 in
     let if5 = c.if-c-top-4 in
     let settled = c.settled-s in
-    let top-code = c.top_code-top in
-    let broken = c.broken in record {
+    record {
       grows = omega (arith, c.broken.ensures.grows);
       follows = (λ r w h.
           let h' = settled.ensures.follows args.nodes.now r h in
-          let top = top-shown h' (top-code.ensures args.starts.now) in
+          let top = top-shown h' c.top-top.ensures.code in
           rw (statement-ended args.t r top if1.false if2.false if3.false if4.false if5.false) (c.broken.ensures.follows _ r h));
     }

@@ -7,11 +7,10 @@ pub returns-then-c-top : goal.returns-then-c-top
 returns-then-c-top c =
     let args = c.args in
     let if1 = c.if-c-top in
-    let top-code = c.top_code-top in
-    let turned = c.turned in record {
+    record {
       grows = c.turned.ensures.grows;
       follows = (λ n r h.
-          let top = top-shown h (top-code.ensures args.starts.now) in
+          let top = top-shown h c.top-top.ensures.code in
           rw (body-then args.t r top if1.true) (c.turned.ensures.follows n r h));
     }
 
@@ -20,11 +19,10 @@ returns-then-c-top-2 c =
     let args = c.args in
     let if1 = c.if-c-top in
     let if2 = c.if-c-top-2 in
-    let top-code = c.top_code-top in
-    let turned2 = c.turned-then-c-top-2 in record {
+    record {
       grows = c.turned-then-c-top-2.ensures.grows;
       follows = (λ n r h.
-          let top = top-shown h (top-code.ensures args.starts.now) in
+          let top = top-shown h c.top-top.ensures.code in
           rw (body-do args.t r top if1.false if2.true) (c.turned-then-c-top-2.ensures.follows n r h));
     }
 
@@ -34,12 +32,11 @@ returns-then-c-top-3 c =
     let if1 = c.if-c-top in
     let if2 = c.if-c-top-2 in
     let if3 = c.if-c-top-3 in
-    let top-code = c.top_code-top in
-    let closed = c.closed in record {
+    record {
       grows = omega (arith, c.closed.ensures.grows);
       follows = (λ n r h.
-          let top = top-shown h (top-code.ensures args.starts.now) in
-          rw (body_end args.t r top if1.false if2.false if3.true) (c.closed.ensures.follows args.codes.now n r h));
+          let top = top-shown h c.top-top.ensures.code in
+          rw (body_end args.t r top if1.false if2.false if3.true) (c.closed.ensures.follows n r h));
     }
 
 pub returns : goal.returns
@@ -48,10 +45,9 @@ returns c =
     let if1 = c.if-c-top in
     let if2 = c.if-c-top-2 in
     let if3 = c.if-c-top-3 in
-    let top-code = c.top_code-top in
-    let broken = c.broken in record {
+    record {
       grows = omega (arith, c.broken.ensures.grows);
       follows = (λ n r h.
-          let top = top-shown h (top-code.ensures args.starts.now) in
+          let top = top-shown h c.top-top.ensures.code in
           rw (body-broken args.t r top if1.false if2.false if3.false) (c.broken.ensures.follows _ r h));
     }

@@ -14,15 +14,13 @@ returns-then-top-eq18 c =
     let args = c.args in
     let if1 = c.if-t-ne1 in
     let if2 = c.if-top-eq18 in
-    let top_start = c.top_start-p in
-    let top-code = c.top_code-top in
-    let closed = c.closed in record {
+    record {
       grows = omega (arith, c.with_delay-w.ensures.grows, c.closed.ensures.grows);
       follows = (λ r h.
-          let top = top-shown h (top-code.ensures args.starts.now) in
-          let p = start-shown h (top_start.ensures args.codes.now) in
+          let top = top-shown h c.top-top.ensures.code in
+          let p = start-shown h c.top-top.ensures.start in
           rw (delay-closes args.t r top if1.false if2.true, ← p)
-          (c.closed.ensures.follows args.codes.now c.with_delay-w.new.nodes _ (c.with_delay-w.ensures.follows args.codes.now args.starts.now r h)));
+          (c.closed.ensures.follows c.with_delay-w.new.nodes _ (c.with_delay-w.ensures.follows args.stack.now r h)));
     }
 
 pub returns : goal.returns
@@ -30,12 +28,10 @@ returns c =
     let args = c.args in
     let if1 = c.if-t-ne1 in
     let if2 = c.if-top-eq18 in
-    let top_start = c.top_start-p in
-    let top-code = c.top_code-top in
-    let with-delay = c.with_delay-w in record {
+    record {
       grows = c.with_delay-w.ensures.grows;
       follows = (λ r h.
-          let top = top-shown h (top-code.ensures args.starts.now) in
-          let p = start-shown h (top_start.ensures args.codes.now) in
-          rw (delay-goes-on args.t r top if1.false if2.false, ← p) (c.with_delay-w.ensures.follows args.codes.now args.starts.now r h));
+          let top = top-shown h c.top-top.ensures.code in
+          let p = start-shown h c.top-top.ensures.start in
+          rw (delay-goes-on args.t r top if1.false if2.false, ← p) (c.with_delay-w.ensures.follows args.stack.now r h));
     }

@@ -6,10 +6,10 @@ pub returns-then-t-eq1 : goal.returns-then-t-eq1
 returns-then-t-eq1 c =
     let args = c.args in
     let if1 = c.if-t-eq1 in
-    record { grows = c.with_delay.ensures.grows; follows = (λ codes starts r h. rw (ticks-delay args.t r h.start if1.true) (c.with_delay.ensures.follows codes starts r h)) }
+    record { grows = c.with_delay.ensures.grows; follows = (λ stack r h. rw (ticks-delay args.t r h.start if1.true) (c.with_delay.ensures.follows stack r h)) }
 
 pub returns : goal.returns
 returns c =
     let args = c.args in
     let if1 = c.if-t-eq1 in
-    record { grows = c.broken.ensures.grows; follows = (λ codes starts r h. rw (ticks-broken args.t r if1.false) (c.broken.ensures.follows _ r h)) }
+    record { grows = c.broken.ensures.grows; follows = (λ stack r h. rw (ticks-broken args.t r if1.false) (c.broken.ensures.follows _ r h)) }

@@ -8,20 +8,18 @@ use Rattle.text.proofs.reader.step.Goals as goal
 pub on_ticks-requires : goal.on_ticks-requires
 unfolding limit_of
 on_ticks-requires c =
-    let start = c in
-    let args = start.args in
-    let pre = start.requires in
+    let args = c.args in
+    let pre = c.requires in
     let few : args.t.value ≤ 255 = rw c.in-Ticks.is at pre.1 in
     (pre.0.nodes, few)
 
 pub on_delay-requires : goal.on_delay-requires
 unfolding limit_of
 on_delay-requires c =
-    let start = c in
-    let args = start.args in
-    let pre = start.requires in
+    let args = c.args in
+    let pre = c.requires in
     let few : args.t.value ≤ 255 = rw c.in-Delay.is at pre.1 in
-    (omega (arith, pre.0.codes, pre.0.height), omega (arith, pre.0.starts, pre.0.height), pre.0.nodes, few)
+    (omega (arith, pre.0.stack, pre.0.height), pre.0.nodes, few)
 
 pub returns-in-Statement : goal.returns-in-Statement
 unfolding step_of
@@ -57,7 +55,7 @@ pub returns-in-Ticks : goal.returns-in-Ticks
 unfolding step_of
 returns-in-Ticks c =
     let args = c.args in
-    record { grows = omega (arith, c.on_ticks.ensures.grows); follows = (λ r w h. rw (step_in args.t r h c.in-Ticks.is) (c.on_ticks.ensures.follows args.codes.now args.starts.now r h)) }
+    record { grows = omega (arith, c.on_ticks.ensures.grows); follows = (λ r w h. rw (step_in args.t r h c.in-Ticks.is) (c.on_ticks.ensures.follows args.stack.now r h)) }
 
 pub returns-in-Delay : goal.returns-in-Delay
 unfolding step_of

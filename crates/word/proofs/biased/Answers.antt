@@ -1,7 +1,0 @@
--- biased: the top bit turned over. Assumes nothing.
-use Rattle.model.specs.Word.{biased}
-use Rattle.word.proofs.biased.Goals as goal
-
-pub returns : goal.returns
-unfolding biased
-returns c = c.wrapping_add_u16.ensures.value

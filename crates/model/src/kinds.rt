@@ -1,7 +1,7 @@
 // Rows of the two tables of kinds: of nodes, for the check of a program, and of cells, for the check of a netlist.
 // They stand here because specs/Program and specs/Circuit speak of them, and a definition can speak of no type of a crate above its own.
 
-// A kind's row of the paper's table of nodes; specs/Program says what its numbers mean.
+// A kind's row of the paper's table of nodes; specs/Program says what its numbers mean, and its table, which this row is of, has numbers.
 #[derive(Clone, Copy)]
 pub struct Row {
     pub sort: u8,

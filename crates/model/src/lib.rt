@@ -3,14 +3,16 @@
 #![tactic(auto)]
 
 ghost use Rattle.std.specs.Prelude.{◌≡◌, Err};
-ghost use Rattle.model.specs.Circuit.{merge_step, return_step};
+ghost use Rattle.model.specs.Circuit.{merge_step, return_step, step_of};
 ghost use Rattle.model.specs.Calls.{refused_answer};
 
-pub mod kinds; // rows of the table of kinds, for the check of a program
+pub mod asked; // what is asked of every full run
+pub mod kinds; // rows of the two tables of kinds
 pub mod sizes; // sizes and limits, for code
 pub mod texts; // tokens and modes, for the reader of a text
 
-// A refusal: its number, and its place.
+// A refusal: its number, and its place. The number is the product's, which the C functions hand out and definition `first_fault` counts with, so it
+// is no enum.
 #[derive(Clone, Copy)]
 pub struct Refusal {
     pub number: u8,
@@ -42,7 +44,8 @@ pub enum Outcome {
     Refused(Refusal),
 }
 
-// The answer of a run: the sixteen words stand beside the outcome.
+// The answer of a run, by value, as it is asked for: the words stand beside the outcome, so it is no Result, and a call that is refused tells it by
+// `Answer::refused`, where others have `?`.
 #[derive(Clone, Copy)]
 pub struct Answer {
     pub outcome: Outcome,
@@ -65,7 +68,7 @@ impl Answer {
     }
 }
 
-// A node of a program, four bytes.
+// A node of a program, four bytes. The kind stays a byte: a caller may hand over any, and what is no kind is refused (2), not unread.
 #[derive(Clone, Copy)]
 pub struct Node {
     pub kind: u8,
@@ -74,7 +77,8 @@ pub struct Node {
 }
 
 // What is given beside a program: what the check of its table says, the operator times, that of each kind from kind 0 on, the number of
-// procedures, and the pulse length.
+// procedures, and the pulse length. What the check says stands beside the times and not around them: definition `load` of specs/TimeTables, whose
+// record this is, has times for a refused table too.
 #[derive(Clone, Copy)]
 pub struct Options {
     pub checked: Checked,
@@ -83,7 +87,7 @@ pub struct Options {
     pub pulse: u8,
 }
 
-// A cell of a netlist, six bytes; callers in other languages lend slices of them.
+// A cell of a netlist, six bytes; callers in other languages lend slices of them. Its kind is any byte for that reason.
 #[repr(C)]
 #[derive(Clone, Copy, PartialEq, Eq)]
 pub struct Cell {
@@ -115,7 +119,7 @@ pub struct Merged {
 }
 
 impl Merge {
-    // One instant with inputs a and b; one: the pulse length is 1; was: the output an instant ago.
+    // One instant with inputs a and b; one: the pulse length is 1; was: the output an instant ago. The two are flags of definition `merge_step`.
     pub fn step(self, one: bool, was: bool, a: bool, b: bool) -> Merged
         ensures { result ≡ merge_step one was self a b }
     {
@@ -142,7 +146,7 @@ impl Merge {
         }
     }
 
-    // One instant of a call's merge, which holds a and no b.
+    // One instant of a call's merge, which holds a and no b; the flags are those of `return_step`.
     pub fn step_call(self, one: bool, was: bool, a: bool, b: bool) -> Merged
         ensures { result ≡ return_step one was self a b }
     {
@@ -165,5 +169,16 @@ impl Merge {
             },
             out,
         }
+    }
+
+    // One instant of a merge cell of this kind, by the byte that a netlist file has, with pulses of this length.
+    pub fn step_of(self, pulse: u8, kind: u8, was: bool, a: bool, b: bool) -> Merged
+        ensures { result ≡ step_of pulse kind was self a b }
+    {
+        let one = pulse == 1;
+        if kind == 39 {
+            return self.step_call(one, was, a, b);
+        }
+        self.step(one, was, a, b)
     }
 }

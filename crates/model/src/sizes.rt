@@ -8,8 +8,6 @@ pub const BLOCK_HEADER: usize = 8;
 
 pub const BLOCK_CELLS: usize = 84;
 
-pub const BLOCK_LAST: usize = 83;
-
 pub const CELL: usize = 6;
 
 pub const MOST_CELLS: usize = 16384;

@@ -13,8 +13,7 @@ use Rattle.laws.specs.Refusals.Search.{searched-none, fault-here, fault-next, fa
 use Rattle.laws.specs.NetlistFile.Arrays.{past_end, past-from, past-until}
 use Rattle.laws.specs.Numbering.Memories.{memories-append}
 use Rattle.netlist.specs.declared.rules.Scan.{Scan}
-use Rattle.netlist.specs.Inputs.{Inputs}
-use Rattle.netlist.specs.Scans.{Stands, Kept, Scanned}
+use Rattle.netlist.specs.Scans.{Kept, Scanned}
 
 pub bit-small : (b : Bool) → bit b ≤ 1
 unfolding bit
@@ -26,19 +25,10 @@ pub cell-fault : (net : List Cell) (k : ℕ) (c : Cell) {p r q : Bool} → cell_
 unfolding cell_fault
 cell-fault net k c e f a g = rw (e, ← f, ← a, ← g) refl
 
--- the kind of cell j, if a is its kind where there is such a cell
-kind-of : (net : List Cell) (j : ℕ) {a : ℕ} → (j < length net → a ≡ (cell_at net j).kind) → pick (ltb j (length net)) a 0 ≡ (cell_at net j).kind
-kind-of net j e =
-    by_bool (ltb j (length net)) (λ t. rw t (e (ltb-true j (length net) t)))
-    (λ t. rw (t, get_or-eq_default net no_cell {n = j} (ltb-false j (length net) t)) refl)
-
-pub stands-inputs : {net : List Cell} {k n a b x y : ℕ} {c : Cell} → n ≡ length net → Stands net k c a b → x ≡ pick (ltb c.a n) a 0
-    → y ≡ pick (ltb c.b n) b 0 → Inputs net n c x y
-stands-inputs {net} {c = c} l s e f = record {
-  count = sym l;
-  first = rw (e, l) (kind-of net c.a s.first);
-  second = rw (f, l) (kind-of net c.b s.second);
-}
+-- a test of the kind of cell v, if it is below a limit; only then a kind has to be known
+pub named : (net : List Cell) (limit v : ℕ) {kind : ℕ} (test : ℕ → Bool) → (v < limit → kind ≡ (cell_at net v).kind)
+    → (ltb v limit && test kind) ≡ (ltb v limit && test (cell_at net v).kind)
+named net limit v test e = by_bool (ltb v limit) (λ t. rw (t, e (ltb-true v limit t)) refl) (λ t. rw t refl)
 
 -- A scan with one cell more ------------------------------------------------------------------------------------------------------------
 

@@ -68,6 +68,9 @@ module _ (file cells : List ℕ) (n k : ℕ) where
   unfolding same_cells
   same_end l = rw (cells-none in_file file k (n - k) (omega arith), cells-none in_list cells k (n - k) (omega arith)) refl
 
+pub same-start : (file cells : List ℕ) (n : ℕ) → same_cells (cells_at in_file file 0 n) (cells_at in_list cells 0 n) ≡ left file cells n 0
+same-start file cells n = let e : n - 0 ≡ n = omega arith in rw e refl
+
 -- The file of a list -----------------------------------------------------------------------------------------------------------------------
 
 module _ (file : List ℕ) (y : Bytes file) (e : file_check file ≡ Accepted) (w : ℕ) (net : List Cell) (f : ℕ) (some : 0 < length net) (long : 1 ≤ w) where
@@ -124,6 +127,12 @@ module _ (file : List ℕ) (y : Bytes file) (e : file_check file ≡ Accepted) (
       z ∙ sym s)
       (λ s. t ∙ sym s))
 
+-- two values that differ, in one of three parts
+differ-in : (a b c : Bool) → not (a && (b && c)) ≡ (not a || (not b || not c))
+differ-in false b c = refl
+differ-in true false c = refl
+differ-in true true c = refl
+
 -- as it is tested, of the first n cells of a list
 module _ (file : List ℕ) (y : Bytes file) (e : file_check file ≡ Accepted) (w : ℕ) (cells : List ℕ) (n f : ℕ) (some : 0 < n) (long : 1 ≤ w) {h : Header}
     (told : h ≡ header_of file) where
@@ -131,13 +140,15 @@ module _ (file : List ℕ) (y : Bytes file) (e : file_check file ≡ Accepted) (
   net = cells_at in_list cells 0 n
 
   abbrev test : Bool
-  test = not (eqb h.count n) || (not (eqb h.finish f) || not (eqb h.pulse w))
+  test = not (eqb h.count n && (eqb h.finish f && eqb h.pulse w))
 
   counted : length net ≡ n
   counted = cells-length in_list cells 0 n
 
   as-told : test ≡ headed file y e w net f (rw counted some) long
-  as-told = rw (counted, header-count file told, header-finish file told, header-pulse file told) refl
+  as-told =
+      differ-in (eqb h.count n) (eqb h.finish f) (eqb h.pulse w)
+      ∙ rw (counted, header-count file told, header-finish file told, header-pulse file told) refl
 
   pub other-header : test ≡ true → false ≡ same file (file_of w net f)
   other-header t = headed-otherwise file y e w net f (rw counted some) long (sym as-told ∙ t)
@@ -147,5 +158,5 @@ module _ (file : List ℕ) (y : Bytes file) (e : file_check file ≡ Accepted) (
 
   pub header-room : test ≡ false → Room InFile file n
   header-room t =
-      let c = eqb-true h.count n (not-false _ (or-false (not (eqb h.count n)) _ t).0) in
+      let c = eqb-true h.count n (and-true (eqb h.count n) _ (not-false _ t)).0 in
       rw (sym (header-count file told) ∙ c) at (accepted-room file e)

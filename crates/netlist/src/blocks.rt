@@ -29,8 +29,8 @@ pub fn check_sums(s: &[u8], m: usize) -> Checked
     requires { 512 * m ≤ length s.now }
     ensures { result ≡ first_fault (sum_fault s.now) 0 m }
 {
-    for b in 0..m {
-        if word::sum16(s, BLOCK * b, 256) != 0 {
+    for (b, block) in s[..BLOCK * m].chunks_exact(BLOCK).enumerate() {
+        if word::sum16(block, 0, 256) != 0 {
             return refuse(10, b);
         }
     }
@@ -70,33 +70,26 @@ pub fn first_number(pulse: u16) -> u16
     requires { pulse ≤ 256 }
     ensures { result ≡ first_number pulse }
 {
-    if pulse == 0 { 0 } else { 256 * (pulse - 1) }
+    256 * pulse.saturating_sub(1)
 }
 
-// Whether block b has nothing but zeros from its byte j on.
-fn zero_from(s: &[u8], b: usize, j: usize) -> bool
-    requires { 512 * b + 512 ≤ length s.now }
-    ensures { result ≡ all_zero (drop j (block_at s.now b)) }
+// Whether a block has nothing but zeros from its byte j on, if it goes so far. Crate state asks it of a part of a state: one line each.
+fn zero_from(block: &[u8], j: usize) -> bool
+    ensures { result ≡ all_zero (drop j block.now) }
 {
-    for k in j..BLOCK {
-        if s[BLOCK * b + k] != 0 {
-            return false;
-        }
-    }
-    true
+    block.iter().skip(j).all(|byte| *byte == 0)
 }
 
-// Whether block b has the header and the unused bytes of a netlist of so many cells.
-fn is_headed(s: &[u8], b: usize, pulse: u16, count: usize, finish: usize) -> bool
-    requires { (512 * b + 512 ≤ length s.now) × (84 * b < count) × (count ≤ cell_limit) × (pulse ≤ 256) }
-    ensures { result ≡ header_right pulse count finish b (block_at s.now b) }
+// Whether a block, which is number b, has the header and the unused bytes of a netlist of so many cells.
+fn is_headed(block: &[u8], b: usize, pulse: u16, count: usize, finish: usize) -> bool
+    requires { (length block.now ≡ 512) × (84 * b < count) × (count ≤ cell_limit) × (pulse ≤ 256) }
+    ensures { result ≡ header_right pulse count finish b block.now }
 {
     let first = first_number(pulse) as usize;
-    let i = BLOCK * b;
-    let number = word::get16(s, i) as usize;
-    let its_count = word::get16(s, i + 2) as usize;
-    let its_finish = word::get16(s, i + 4) as usize;
-    let unused = zero_from(s, b, BLOCK_HEADER + CELL * (count - BLOCK_CELLS * b));
+    let number = word::get16(block, 0) as usize;
+    let its_count = word::get16(block, 2) as usize;
+    let its_finish = word::get16(block, 4) as usize;
+    let unused = zero_from(block, BLOCK_HEADER + CELL * (count - BLOCK_CELLS * b));
     (number == first + b) & ((its_count == count) & ((its_finish == finish) & unused))
 }
 
@@ -105,8 +98,8 @@ pub fn check_headers(s: &[u8], m: usize, pulse: u16, count: usize, finish: usize
     requires { (512 * m ≤ length s.now) × (count ≤ cell_limit) × (m ≡ blocks_for count) × (count ≡ count_of s.now) × (finish ≡ finish_of s.now) × (pulse ≡ pulse_of s.now) × (pulse ≤ 256) }
     ensures { result ≡ first_fault (header_fault s.now) 0 m }
 {
-    for b in 0..m {
-        if !is_headed(s, b, pulse, count, finish) {
+    for (b, block) in s[..BLOCK * m].chunks_exact(BLOCK).enumerate() {
+        if !is_headed(block, b, pulse, count, finish) {
             return refuse(11, b);
         }
     }
@@ -163,7 +156,8 @@ impl BlockHeader {
     }
 }
 
-// Puts cell k of n, which is c, into their file, whose blocks are numbered from first on, and with the last cell of a block what else the block has; answers the running sum.
+// Puts cell k of n, which is c, into their file, whose blocks are numbered from first on, and with the last cell of a block what else the block has; answers
+// the running sum. It has seven parameters, since crates that hold their cells otherwise call it cell by cell, with these in variables of their own.
 pub fn put_next(d: &mut [u8], k: usize, n: usize, first: u16, finish: u16, c: Cell, sum: u16) -> u16
     requires { (k < n) × (n ≤ cell_limit) × (512 * blocks_for n ≤ length d.old) × (first ≤ 65280) }
     ensures { (net : List Cell) (was : List ℕ) → length net ≡ n → cell_at net k ≡ c → Filled first net finish was k sum d.old → Filled first net finish was (k + 1) result d.new }
@@ -183,15 +177,15 @@ pub fn put_next(d: &mut [u8], k: usize, n: usize, first: u16, finish: u16, c: Ce
     total
 }
 
-// Puts the file of a list of n cells in.
+// Puts the file of a list of n cells in. cells::put_cells puts the cells alone in: no block, header or sum is the same there.
 pub fn put_file(d: &mut [u8], cells: &[u8], n: usize, pulse: u16, finish: u16)
     requires { (512 * blocks_for n ≤ length d.old) × Room Layout.InList cells.now n × (pulse ≤ 256) }
     ensures { d.new ≡ sets d.old 0 (file_of pulse (cells_at in_list cells.now 0 n) finish) }
 {
     let first = first_number(pulse);
     let mut sum = 0;
-    for k in 0..n {
-        let c = crate::cells::cell_at(cells, Layout::InList, k);
+    for (k, cell) in cells[..CELL * n].chunks_exact(CELL).enumerate() {
+        let c = crate::cells::cell_from(cell, 0);
         sum = put_next(d, k, n, first, finish, c, sum);
     }
 }

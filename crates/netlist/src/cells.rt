@@ -26,7 +26,7 @@ pub fn offset(layout: Layout, k: usize) -> usize
     }
 }
 
-// The byte of a file at which the cell behind the one at i begins: a loop over the cells goes by it, and divides nowhere.
+// The byte of a file at which the cell behind the one at i begins: the simulator's loops over the cells go by it, and divide nowhere.
 pub fn next_offset(i: usize) -> usize
     requires { i ≤ file_limit }
     ensures { result ≡ after i }
@@ -39,7 +39,7 @@ pub fn next_offset(i: usize) -> usize
     }
 }
 
-// The cell that begins at byte i.
+// The cell that begins at byte i. No From of six bytes: callers have a slice and a place in it, and would cut the six out for it first.
 pub fn cell_from(s: &[u8], i: usize) -> Cell
     requires { i + 6 ≤ length s.now }
     ensures { result ≡ cell_from s.now i }
@@ -57,6 +57,36 @@ pub fn cell_at(s: &[u8], layout: Layout, k: usize) -> Cell
     ensures { result ≡ cell_from s.now (offset layout k) }
 {
     cell_from(s, offset(layout, k))
+}
+
+// The cells that are left, from cell `next` up to cell `end`, one after another.
+#[derive(Clone, Copy)]
+pub struct Cells<'a> {
+    pub bytes: &'a [u8],
+    pub layout: Layout,
+    pub next: usize,
+    pub end: usize,
+    ghost room: { Room layout bytes.now end },
+}
+
+impl<'a> Iterator for Cells<'a> {
+    ghost use Rattle.std.specs.Iterator.{YieldsFirst, item_count};
+    ghost use Rattle.netlist.specs.Left.{cells_left};
+
+    type Item = Cell;
+
+    ghost next_gives = { YieldsFirst cells_left };
+
+    ghost remaining = { item_count cells_left };
+
+    fn next(&mut self) -> Option<Cell> {
+        if self.end <= self.next {
+            return None;
+        }
+        let c = cell_at(self.bytes, self.layout, self.next);
+        self.next += 1;
+        Some(c)
+    }
 }
 
 // Puts a cell in at i; answers the sum after it, from the sum before.
@@ -78,8 +108,13 @@ pub fn put_cells(d: &mut [u8], i: usize, s: &[u8], layout: Layout, k: usize, n: 
     requires { Room layout s.now (k + n) × (i + 6 * n ≤ length d.old) }
     ensures { d.new ≡ sets d.old i (cell_bytes (cells_at (offset layout) s.now k n)) }
 {
-    for j in 0..n {
-        let c = cell_at(s, layout, k + j);
+    let cells = Cells {
+        bytes: s,
+        layout,
+        next: k,
+        end: k + n,
+    };
+    for (j, c) in cells.enumerate() {
         put_cell(d, i + CELL * j, c, 0);
     }
 }

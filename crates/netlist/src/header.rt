@@ -8,7 +8,7 @@ ghost use Rattle.netlist.specs.Headers.{header_of};
 use crate::blocks;
 
 // How many cells there are, which of them is the finish, and how long pulses are.
-#[derive(Clone, Copy)]
+#[derive(Clone, Copy, PartialEq, Eq)]
 pub struct Header {
     pub count: usize,
     pub finish: usize,

@@ -1,5 +1,6 @@
 // Netlist files: checked, written from cells of six bytes each, read back to them.
 // The calls that check, write and read have no requires, and their contracts are equations with model/NetlistFile and model/Calls.
+// Most widening casts are `as`, which a proof computes; each `From` would be one more equation to rewrite by.
 #![tactic(auto)]
 
 ghost use Rattle.model.specs.Refusals.{Accepted};
@@ -55,7 +56,8 @@ pub fn check_last(file: &[u8]) -> Checked
     rules::check_last(file, Layout::InFile, n)
 }
 
-// Writes n cells of a list, with their pulse length and finish, as a file: refusal 14.
+// Writes n cells of a list, with their pulse length and finish, as a file: refusal 14. The count stands beside, here and below: there is no heap, so the list
+// has room for the most cells that there may be.
 pub fn write_file(
     file: &mut [u8],
     cells: &[u8],

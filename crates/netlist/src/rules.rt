@@ -1,15 +1,14 @@
 // Refusal 12: the rules that the cells of a netlist keep. One step looks at one cell, whether it stands in a list, in a file or as a struct.
 // Each contract is an equation with model/NetlistFile, or says what is found of the netlist's first cells (specs/Scans).
-ghost use Rattle.std.specs.Prelude.{◌≡◌, ℕ, ◌+◌, ◌-◌, ◌^◌, ◌<◌, ◌≤◌, true, ◌&&◌, List, length, ◌==◌, nat_lt};
+ghost use Rattle.std.specs.Prelude.{◌≡◌, ℕ, ◌+◌, ◌-◌, ◌^◌, ◌<◌, ◌≤◌, true, ◌&&◌, List, length, get_or, ◌==◌, nat_lt};
 ghost use Rattle.model.specs.declared.Cell.{Cell};
 ghost use Rattle.model.specs.Word.{pick};
 ghost use Rattle.model.specs.Circuit.{cell_at, names};
-ghost use Rattle.model.specs.NetlistFile.{cells_at, kept, stands, keeps, placed, array_placed, net_check, carries, last_check};
+ghost use Rattle.model.specs.NetlistFile.{cell_limit, cells_at, kept, stands, keeps, placed, array_placed, net_check, carries, last_check};
 ghost use Rattle.netlist.specs.Offsets.{offset, Room};
-ghost use Rattle.netlist.specs.Inputs.{Inputs};
 ghost use Rattle.netlist.specs.Scans.{Stands, Scanned};
 
-use crate::cells::Layout;
+use crate::cells::{Cells, Layout};
 use crate::kinds;
 use model::kinds::Use;
 use model::{Cell, Checked, refuse};
@@ -32,17 +31,13 @@ pub struct Scan {
     pub control: bool,
 }
 
-// The kind of cell k of n, 0 past the last.
-// A list, its layout and its count stay parameters here and below: cells::cell_at, which other crates call, takes them so.
-fn kind_at(s: &[u8], layout: Layout, n: usize, k: usize) -> u8
-    requires { Room layout s.now n }
-    ensures { result ≡ (cell_at (cells_at (offset layout) s.now 0 n) k).kind }
+// The kind of cell k.
+// A list and its layout stay parameters here and below, as cells::cell_at takes them: cells::Cells walks, and here any cell is looked at.
+fn kind_at(s: &[u8], layout: Layout, k: usize) -> u8
+    requires { (k < cell_limit) × (offset layout k + 6 ≤ length s.now) }
+    ensures { result ≡ get_or s.now (offset layout k) 0 }
 {
-    if k < n {
-        s[crate::cells::offset(layout, k)]
-    } else {
-        0
-    }
+    s[crate::cells::offset(layout, k)]
 }
 
 // Whether cell k may be c: cells 0, 1 and 2 are given.
@@ -82,9 +77,10 @@ fn arrays_placed(m: usize, k: usize, c: Cell) -> bool
     }
 }
 
-// Whether v, in cell k of n, is what its use asks for; `kind` is that of cell v, if v names a cell.
+// Whether v, in cell k of n, is what its use asks for; `kind` is that of cell v, if v names a cell; no other use looks at it.
 fn keeps_use(u: Use, n: usize, k: usize, v: usize, kind: u8) -> bool
-    ensures { (net : List Cell) → length net ≡ n → (names u ≡ true → kind ≡ (cell_at net v).kind) → result ≡ kept u net k v }
+    requires { k < n }
+    ensures { (net : List Cell) → length net ≡ n → (names u ≡ true → v < n → kind ≡ (cell_at net v).kind) → result ≡ kept u net k v }
 {
     match u {
         Use::Unknown => false,
@@ -99,9 +95,10 @@ fn keeps_use(u: Use, n: usize, k: usize, v: usize, kind: u8) -> bool
     }
 }
 
-// Whether cell k of n, which is c, keeps the rules of its kind; a and b are the kinds of its inputs.
+// Whether cell k of n, which is c, keeps the rules of its kind; a and b are the kinds of the cells that its inputs name.
 fn keeps_rule(n: usize, k: usize, c: Cell, a: u8, b: u8) -> bool
-    ensures { (net : List Cell) → Inputs net n c a b → result ≡ keeps net k c }
+    requires { k < n }
+    ensures { (net : List Cell) → length net ≡ n → Stands net k c a b → result ≡ keeps net k c }
 {
     let row = kinds::cell_row(c.kind);
     let right_delay = keeps_use(row.delay, n, k, c.delay as usize, 0);
@@ -139,19 +136,12 @@ pub fn begin(n: usize, finish: usize) -> Scan
     }
 }
 
-// The cell to look at for input j of cell k: cell j, or cell k itself past the last.
+// The cell to look at for input j of cell k: cell j, or cell k itself past the last, whose kind no rule then asks for (specs/Scans).
 pub fn input(n: usize, k: usize, j: u16) -> usize
     ensures { result ≡ pick (nat_lt j n) j k }
 {
     let i = j as usize;
     if i < n { i } else { k }
-}
-
-// The kind of cell j of n, 0 past the last.
-fn known(n: usize, j: u16, kind: u8) -> u8
-    ensures { result ≡ pick (nat_lt j n) kind 0 }
-{
-    if (j as usize) < n { kind } else { 0 }
 }
 
 // The scan with cell k, which is c; a and b are the kinds of the cells that its inputs name.
@@ -160,9 +150,7 @@ pub fn step(s: Scan, k: usize, c: Cell, a: u8, b: u8) -> Scan
     ensures { (net : List Cell) (finish : ℕ) → Stands net k c a b → Scanned net finish k s → Scanned net finish (k + 1) result }
 {
     let n = s.n;
-    let kind_a = known(n, c.a, a);
-    let kind_b = known(n, c.b, b);
-    let keeps = keeps_rule(n, k, c, kind_a, kind_b);
+    let keeps = keeps_rule(n, k, c, a, b);
     let arrays = past_memories(s.memories, k, s.arrays);
     let right = is_placed(k, c) & (arrays_placed(arrays, k, c) & keeps);
     let kept = with_next(s.kept, k, right);
@@ -207,10 +195,15 @@ pub fn check_cells(s: &[u8], layout: Layout, n: usize, finish: usize) -> Checked
     ensures { result ≡ net_check (cells_at (offset layout) s.now 0 n) finish }
 {
     let mut scan = begin(n, finish);
-    for k in 0..n {
-        let c = crate::cells::cell_at(s, layout, k);
-        let a = kind_at(s, layout, n, c.a as usize);
-        let b = kind_at(s, layout, n, c.b as usize);
+    let cells = Cells {
+        bytes: s,
+        layout,
+        next: 0,
+        end: n,
+    };
+    for (k, c) in cells.enumerate() {
+        let a = kind_at(s, layout, input(n, k, c.a));
+        let b = kind_at(s, layout, input(n, k, c.b));
         scan = step(scan, k, c, a, b);
     }
     told(scan)
@@ -237,10 +230,16 @@ pub fn check_last(s: &[u8], layout: Layout, n: usize) -> Checked
     requires { Room layout s.now n }
     ensures { result ≡ last_check (cells_at (offset layout) s.now 0 n) }
 {
-    for k in first_last(n)..n {
-        let c = crate::cells::cell_at(s, layout, k);
+    let first = first_last(n);
+    let last = Cells {
+        bytes: s,
+        layout,
+        next: first,
+        end: n,
+    };
+    for (k, c) in last.enumerate() {
         if !carries(c) {
-            return refuse(12, k);
+            return refuse(12, first + k);
         }
     }
     Ok(())

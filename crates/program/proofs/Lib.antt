@@ -1,3 +1,4 @@
+pub mod Pieces
 pub mod Children
 pub mod Misread
 pub mod Loose

@@ -5,3 +5,4 @@ pub mod Ranges
 pub mod Uses
 pub mod Roots
 pub mod Shape
+pub mod Parts

@@ -39,8 +39,7 @@ fn names(kind: u8, n: u16, mark: Mark) -> bool
 fn marked(node: Node, mark: Mark, bodies: &[bool]) -> bool
     ensures { result ≡ marked mark (λ p. get_or bodies.now p false) node }
 {
-    let p = node.n as usize;
-    let called = if p < bodies.len() { bodies[p] } else { false };
+    let called = bodies.get(node.n as usize).copied().unwrap_or(false);
     names(node.kind, node.n, mark) | ((node.kind == 27) & called)
 }
 
@@ -49,16 +48,15 @@ fn uses(tree: &Tree<'_>, i: usize, mark: Mark, bodies: &[bool]) -> bool
     requires { Side tree.now.program.now tree.now.ends.now i }
     ensures { result ≡ any_marked mark (λ p. get_or bodies.now p false) (preorder (stmt_at tree.now.program.now i)) }
 {
-    let end = tree.next(i);
-    for k in i..end {
-        if marked(nodes::read_node(tree.program, k), mark, bodies) {
+    for node in tree.subtree(i).chunks_exact(NODE) {
+        if marked(nodes::read_node(node, 0), mark, bodies) {
             return true;
         }
     }
     false
 }
 
-// Which bodies do it: each by those before it.
+// Which bodies do it: each by those before it, so the list is read as a whole while its entries are written, by number.
 fn bodies_with(tree: &Tree<'_>, procedures: usize, mark: Mark) -> [bool; 8]
     requires { Rooted procedures tree.now.program.now tree.now.ends.now }
     ensures { (p : ℕ) → get_or result p false ≡ carried (program_of 1 procedures tree.now.program.now).bodies mark p }
@@ -81,7 +79,7 @@ fn does(tree: &Tree<'_>, procedures: usize, i: usize, mark: Mark) -> bool
 }
 
 // What one side of a parallel node may not do beside the other: where `shared` is set both call procedure x, else one writes variable x and the
-// other reads or writes it.
+// other reads or writes it. The two are flags, here and below, since definitions `mark_of`, `crossing` and `clash_fault` take them as such.
 fn mark_of(shared: bool, touch: bool, x: u16) -> Mark
     ensures { result ≡ mark_of shared touch x }
 {

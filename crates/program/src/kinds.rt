@@ -45,13 +45,15 @@ const TABLE: [Line; 28] = [
 pub fn kind_row(kind: u8) -> Row
     ensures { result ≡ row_of kind }
 {
-    let k = if kind < 28 { kind as usize } else { 0 };
-    let line = TABLE[k];
+    let Line(sort, delay, number, exprs, stmts) = TABLE
+        .get(kind as usize)
+        .copied()
+        .unwrap_or(TABLE[0]);
     Row {
-        sort: line.0,
-        delay: line.1,
-        number: line.2,
-        exprs: line.3,
-        stmts: line.4,
+        sort,
+        delay,
+        number,
+        exprs,
+        stmts,
     }
 }

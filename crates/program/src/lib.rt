@@ -1,6 +1,7 @@
 // The check of a program with what is given beside it: refusals 1 to 8, 22, 24 and 25, and the two arrays of 200 that the checks fill.
 // Contracts are equations with model/ProgramChecks; specs/Ends and Shape say what the arrays hold. Entry k of `operators` is the time of kind k.
-// In all files `|` and `&` stand between tests where both sides are cheap: they are the model's own `||` and `&&`.
+// In all files `|` and `&` stand between tests where both sides are cheap: they are the model's own `||` and `&&`. Most widening casts are `as`, which a
+// proof computes; each `From` would be one more equation to rewrite by.
 #![tactic(auto)]
 
 ghost use Rattle.std.specs.Prelude.{◌≡◌, drop};
@@ -22,10 +23,12 @@ mod times; // expression times, and refusal 7
 mod clashes; // refusals 25 and 8
 
 use crate::nodes::Tree;
+use crate::times::Measured;
 use model::sizes::NODE;
 use model::{Checked, Options, Refusal};
 
-// What a scan tells of an accepted program: each node's expression time, and the node after its subtree.
+// What a scan tells of an accepted program: each node's expression time, and the node after its subtree. Two arrays of 200 are asked for, and each is read
+// without the other.
 #[derive(Clone, Copy)]
 pub struct Scanned {
     pub times: [u16; 200],
@@ -37,11 +40,16 @@ fn last_check(options: &Options, program: &[u8], told: &Scanned) -> Checked
     requires { Rooted options.now.procedures program.now told.now.ends × AllShaped (time_in options.now.times) program.now told.now }
     ensures { result ≡ first (drop 5 (program_checks (time_in options.now.times) options.now.pulse options.now.procedures program.now)) }
 {
-    times::first_slow(&options.times, options.pulse, program, told)?;
     let tree = Tree {
         program,
         ends: &told.ends,
     };
+    let measured = Measured {
+        operators: &options.times,
+        tree,
+        times: &told.times,
+    };
+    measured.first_slow(options.pulse)?;
     clashes::first_clash(&tree, options.procedures, true)?;
     clashes::first_clash(&tree, options.procedures, false)
 }
@@ -60,8 +68,8 @@ fn late_check(options: &Options, program: &[u8], told: &Scanned) -> Checked
     last_check(options, program, told)
 }
 
-// The arrays, filled from the last node to the first.
-fn measure(options: &Options, program: &[u8]) -> Scanned
+// The arrays, filled from the last node to the first: an entry is by those behind it, so nodes are counted, and the arrays are read as wholes.
+fn measure<'a>(options: &'a Options, program: &'a [u8]) -> Scanned
     requires { Readable options.now.procedures program.now }
     ensures { AllShaped (time_in options.now.times) program.now result }
 {
@@ -71,12 +79,19 @@ fn measure(options: &Options, program: &[u8]) -> Scanned
     };
     for i in (0..program.len() / NODE).rev() {
         let row = kinds::kind_row(nodes::read_node(program, i).kind);
-        told.times[i] = times::time_at(&options.times, program, &told, i);
         let tree = Tree {
             program,
             ends: &told.ends,
         };
-        told.ends[i] = tree.skip(i + 1, row.exprs as usize + row.stmts as usize);
+        let measured = Measured {
+            operators: &options.times,
+            tree,
+            times: &told.times,
+        };
+        let time = measured.time_at(i);
+        let end = tree.skip(i + 1, row.exprs as usize + row.stmts as usize);
+        told.times[i] = time;
+        told.ends[i] = end;
     }
     told
 }
@@ -104,11 +119,10 @@ pub fn scan(options: Options, program: &[u8]) -> Result<Scanned, Refusal>
 pub fn check(options: Options, program: &[u8]) -> Checked
     ensures { result ≡ check_call options program.now }
 {
-    scan(options, program)?;
-    Ok(())
+    scan(options, program).map(|_told| ())
 }
 
-// As scan, for a functional circuit, which is given a table alone; refusal 28 comes after 6.
+// As scan, for a functional circuit, which is given a table alone; refusal 28 comes after 6. Each of the two is the order of its checks and no more.
 pub fn scan_functional(options: Options, program: &[u8]) -> Result<Scanned, Refusal>
     ensures { Tells (time_in options.times) program.now (check_functional_call options program.now) result }
 {
@@ -127,6 +141,5 @@ pub fn scan_functional(options: Options, program: &[u8]) -> Result<Scanned, Refu
 pub fn check_functional(options: Options, program: &[u8]) -> Checked
     ensures { result ≡ check_functional_call options program.now }
 {
-    scan_functional(options, program)?;
-    Ok(())
+    scan_functional(options, program).map(|_told| ())
 }

@@ -11,7 +11,7 @@ use model::{Checked, Node, refuse};
 
 const MOST_PROCEDURES: usize = 8;
 
-// A field without a use that is not zero.
+// A field without a use that is not zero. What a use is stays a number here and below: a row has the numbers of model's table (model::kinds).
 fn spare(used: u8, value: u16) -> bool
     ensures { result ≡ unused_set used value }
 {
@@ -25,7 +25,7 @@ fn absent(used: u8, n: u16) -> bool
     ((used == 2) & (15 < n)) | ((used == 3) & (3 < n))
 }
 
-// Refusals 2 to 4 of one node.
+// Refusals 2 to 4 of one node, by the number, as definition `node_fault` tells them.
 fn fault_of(node: Node) -> Option<u8>
     ensures { MatchOption result (node_fault node ≡ 0) (λ number. (node_fault node ≡ number) × (0 < number)) }
 {
@@ -55,8 +55,8 @@ fn length_wrong(program: &[u8]) -> bool
 fn first_fault(program: &[u8]) -> Checked
     ensures { result ≡ first_fault (λ i. node_fault (node_at program.now i)) 0 (node_count program.now) }
 {
-    for i in 0..program.len() / NODE {
-        if let Some(number) = fault_of(nodes::read_node(program, i)) {
+    for (i, node) in program.chunks_exact(NODE).enumerate() {
+        if let Some(number) = fault_of(nodes::read_node(node, 0)) {
             return refuse(number, i);
         }
     }
@@ -68,11 +68,10 @@ fn first_misread(program: &[u8], procedures: usize) -> Checked
     requires { (length program.now ≤ 800) × (procedures ≤ 8) }
     ensures { result ≡ reading (root_sorts procedures) 0 (nodes_at program.now 0) }
 {
-    let count = program.len() / NODE;
     let mut exprs: usize = 0;
     let mut stmts: usize = procedures + 1;
-    for i in 0..count {
-        let row = kinds::kind_row(nodes::read_node(program, i).kind);
+    for (i, node) in program.chunks_exact(NODE).enumerate() {
+        let row = kinds::kind_row(nodes::read_node(node, 0).kind);
         if exprs == 0 {
             if stmts == 0 {
                 return refuse(6, i);
@@ -92,7 +91,7 @@ fn first_misread(program: &[u8], procedures: usize) -> Checked
     if exprs + stmts == 0 {
         return Ok(());
     }
-    refuse(6, count)
+    refuse(6, program.len() / NODE)
 }
 
 // Refusals 1 to 6, which no operator time touches.
@@ -117,8 +116,8 @@ fn added(kind: u8) -> bool
 pub fn first_added(program: &[u8]) -> Checked
     ensures { result ≡ first_fault (added_fault program.now) 0 (node_count program.now) }
 {
-    for i in 0..program.len() / NODE {
-        if added(nodes::read_node(program, i).kind) {
+    for (i, node) in program.chunks_exact(NODE).enumerate() {
+        if added(nodes::read_node(node, 0).kind) {
             return refuse(28, i);
         }
     }

@@ -1,5 +1,5 @@
 // What is refused in each root, body or main program: an exit that has no loop to leave, 22, and a call of a procedure that is not before it, 24.
-// Each contract is an equation with model/ProgramChecks; `rootFault`, which is either of the two, is in specs/Roots.
+// Each contract is an equation with model/ProgramChecks; `root_fault`, which is either of the two, is in specs/Roots.
 ghost use Rattle.std.specs.Prelude.{◌≡◌};
 ghost use Rattle.model.specs.Program.{stmt_at, program_of, roots};
 ghost use Rattle.model.specs.ProgramChecks.{loose_in, late_in, in_roots};
@@ -11,7 +11,7 @@ use model::sizes::NODE;
 use model::{Checked, refuse};
 
 // Refusal 22: the first exit in the statement at node i with no loop around it, or with a parallel node between it and that loop;
-// `inside` tells whether a loop is around node i with no parallel node between.
+// `inside`, the flag of definition `loose_in`, tells whether a loop is around node i with no parallel node between.
 fn first_loose(tree: &Tree<'_>, i: usize, inside: bool) -> Checked
     requires { Side tree.now.program.now tree.now.ends.now i }
     ensures { result ≡ loose_in inside (stmt_at tree.now.program.now i) i }
@@ -42,17 +42,16 @@ fn first_late(tree: &Tree<'_>, i: usize, r: usize) -> Checked
     requires { Side tree.now.program.now tree.now.ends.now i }
     ensures { result ≡ late_in r (stmt_at tree.now.program.now i) i }
 {
-    let end = tree.next(i);
-    for k in i..end {
-        let node = nodes::read_node(tree.program, k);
+    for (k, bytes) in tree.subtree(i).chunks_exact(NODE).enumerate() {
+        let node = nodes::read_node(bytes, 0);
         if (node.kind == 27) & (r <= node.n as usize) {
-            return refuse(24, k);
+            return refuse(24, i + k);
         }
     }
     Ok(())
 }
 
-// Refusal 22 or, where the flag is set, 24 in root r, the statement at node i.
+// Refusal 22 or, where the flag is set, 24 in root r, the statement at node i. It is a flag, since definition `root_fault` of specs/Roots takes one.
 fn root_fault(tree: &Tree<'_>, i: usize, r: usize, late: bool) -> Checked
     requires { Side tree.now.program.now tree.now.ends.now i }
     ensures { result ≡ root_fault late r (stmt_at tree.now.program.now i) i }
@@ -63,7 +62,7 @@ fn root_fault(tree: &Tree<'_>, i: usize, r: usize, late: bool) -> Checked
     first_loose(tree, i, false)
 }
 
-// In all roots.
+// In all roots, by their numbers, which 24 compares with that of a call; `skip` finds each from the first node on, as definition `roots` does.
 pub fn first_in_roots(tree: &Tree<'_>, procedures: usize, late: bool) -> Checked
     requires { Rooted procedures tree.now.program.now tree.now.ends.now }
     ensures { result ≡ in_roots (root_fault late) 0 (roots (program_of 1 procedures tree.now.program.now)) 0 }

@@ -72,10 +72,11 @@ fn check_table(file: &[u8]) -> Checked
     first_wrong(file)
 }
 
+// A byte of a file, 0 past its end: definition `times_in` takes the ten bytes so, one by one.
 fn byte_at(file: &[u8], i: usize) -> u8
     ensures { result ≡ get_or file.now i 0 }
 {
-    if i < file.len() { file[i] } else { 0 }
+    file.get(i).copied().unwrap_or(0)
 }
 
 // The times that a file gives. Of a refused one they are of no use.
@@ -104,7 +105,7 @@ pub fn load(file: &[u8], procedures: usize, pulse: u8) -> Options
     }
 }
 
-// With a flag that tells whether a file is given.
+// With a flag that tells whether a file is given, as the C functions have it and definition `given_if` takes it.
 pub fn load_if(timed: bool, file: &[u8], procedures: usize, pulse: u8) -> Options
     ensures { result ≡ load (beside (given_if timed file.now) procedures pulse) }
 {
@@ -114,7 +115,8 @@ pub fn load_if(timed: bool, file: &[u8], procedures: usize, pulse: u8) -> Option
     built_in(procedures, pulse)
 }
 
-// Refusal 27, and then what the check of the table says.
+// Refusal 27, and then what the check of the table says. The test of 27 stands in netlist::blocks too, of a file's number: what
+// the two share is one comparison.
 pub fn check_given(options: Options) -> Checked
     ensures { result ≡ given_check options }
 {

@@ -1,27 +1,19 @@
 -- The sum of the words of a list, word by word. Assumes nothing.
-use Rattle.std.proofs.Common.{◌≡◌, ℕ, zero, suc, ◌+◌, ◌-◌, ◌*◌, ◌%◌, ◌≤◌, List, [], ◌∷◌, length, take, drop, arith, get_or-drop, length-drop}
+use Rattle.std.proofs.Common.{◌≡◌, ℕ, ◌+◌, ◌%◌, ◌<◌, List, [], ◌∷◌, ◌++◌, length, refl, arith}
 use Rattle.model.specs.Word.{get16}
 use Rattle.model.specs.NetlistFile.{word_sum}
 
--- the first k words and one more
-word_sum-more : (s : List ℕ) (k : ℕ) → 2 * k + 2 ≤ length s → word_sum (take (2 * (k + 1)) s) ≡ word_sum (take (2 * k) s) + get16 s (2 * k)
+-- a list whose first word is the two bytes of w
+pub first-word : {s : List ℕ} (w t : List ℕ) → s ≡ w ++ t → length w ≡ 2 → (word_sum s ≡ get16 w 0 + word_sum t) × (length s ≡ 2 + length t)
 unfolding word_sum get16
-word_sum-more [] k h = absurd (omega arith)
-word_sum-more (x ∷ []) k h = absurd (omega arith)
-word_sum-more (x ∷ (y ∷ s)) zero h = omega arith
-word_sum-more (x ∷ (y ∷ s)) (suc k) h =
-    let e : 2 * (suc k + 1) ≡ suc (suc (2 * (k + 1))) = omega arith in
-    let f : 2 * suc k ≡ suc (suc (2 * k)) = omega arith in
-    let g : suc (suc (2 * k)) + 1 ≡ suc (suc (2 * k + 1)) = omega arith in
-    rw (e, f, g) (omega (arith, word_sum-more s k (omega arith)))
+first-word [] t e l = absurd (omega arith)
+first-word (x ∷ []) t e l = absurd (omega arith)
+first-word (x ∷ (y ∷ [])) t e l = rw e (refl, omega arith)
+first-word (x ∷ (y ∷ (z ∷ w))) t e l = absurd (omega arith)
 
--- the same of the words from byte i on, in sixteen bits
-pub words_more : (s : List ℕ) (i k sum : ℕ) {w : ℕ} → i + 2 * k + 2 ≤ length s → w ≡ get16 s (i + 2 * k) → sum ≡ word_sum (take (2 * k) (drop i s)) % 65536
-    → (sum + w) % 65536 ≡ word_sum (take (2 * (k + 1)) (drop i s)) % 65536
-unfolding get16
-words_more s i k sum h e f =
-    let u = drop i s in
-    let l : length u ≡ length s - i = length-drop i s in
-    let a : i + 2 * k + 1 ≡ i + (2 * k + 1) = omega arith in
-    let w = rw (a, ← get_or-drop i s (2 * k) 0, ← get_or-drop i s (2 * k + 1) 0) at e in
-    rw (word_sum-more u k (omega (arith, l)), f) (omega (arith, w))
+-- bytes too few for a word, where no byte is left over
+pub no-word : (s : List ℕ) → length s < 2 → length s % 2 ≡ 0 → word_sum s ≡ 0
+unfolding word_sum
+no-word [] h e = refl
+no-word (x ∷ []) h e = absurd (omega arith)
+no-word (x ∷ (y ∷ s)) h e = absurd (omega arith)

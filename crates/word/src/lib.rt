@@ -22,7 +22,7 @@ fn biased(w: u16) -> u16
     w.wrapping_add(32768)
 }
 
-// The operators of kinds 3 to 9, which are numbers as files have them.
+// The operators of kinds 3 to 9, which stay numbers: definition `operate` takes one, and files have them so.
 #[tactic(auto, unfolding(model::specs::Word::operate))]
 pub fn operate(kind: u8, x: u16, y: u16) -> u16
     ensures { result ≡ operate kind x y }
@@ -38,6 +38,8 @@ pub fn operate(kind: u8, x: u16, y: u16) -> u16
     }
 }
 
+// Numbers in bytes, a pair of functions for each size: std's from_le_bytes and to_le_bytes are methods of each number type and of no trait, so one
+// generic pair would need a trait of our own with a law for each size, and would be no shorter.
 #[tactic(auto, unfolding(model::specs::Word::get16))]
 pub fn get16(s: &[u8], i: usize) -> u16
     requires { i + 1 < length s.now }
@@ -56,23 +58,20 @@ pub fn put16(s: &mut [u8], i: usize, v: u16)
     s[i + 1] = high;
 }
 
-#[tactic(auto, unfolding(model::specs::Word::get32))]
+#[tactic(auto, unfolding(model::specs::Word::get16, model::specs::Word::get32))]
 pub fn get32(s: &[u8], i: usize) -> u32
     requires { i + 3 < length s.now }
     ensures { result ≡ get32 s.now i }
 {
-    let low = get16(s, i);
-    let high = get16(s, i + 2);
-    u32::from(low) + 65536 * u32::from(high)
+    u32::from_le_bytes([s[i], s[i + 1], s[i + 2], s[i + 3]])
 }
 
-#[tactic(auto, unfolding(model::specs::Word::put32))]
+#[tactic(auto, unfolding(model::specs::Word::put16, model::specs::Word::put32))]
 pub fn put32(s: &mut [u8], i: usize, v: u32)
     requires { i + 3 < length s.old }
     ensures { s.new ≡ put32 s.old i v }
 {
-    put16(s, i, (v % 65536) as u16);
-    put16(s, i + 2, (v / 65536) as u16);
+    put_bytes(s, i, &v.to_le_bytes());
 }
 
 // Bytes one after another, from `at` on; answers the place after them.
@@ -92,8 +91,8 @@ pub fn sum16(s: &[u8], from: usize, n: usize) -> u16
     ensures { result ≡ word_sum (take (2 * n) (drop from s.now)) % 65536 }
 {
     let mut sum: u16 = 0;
-    for k in 0..n {
-        sum = sum.wrapping_add(get16(s, from + 2 * k));
+    for word in s[from..from + 2 * n].chunks_exact(2) {
+        sum = sum.wrapping_add(get16(word, 0));
     }
     sum
 }

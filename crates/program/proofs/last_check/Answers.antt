@@ -6,7 +6,7 @@ use Rattle.model.specs.Program.{program_of}
 use Rattle.program.proofs.last_check.Goals as goal
 
 pub first_slow-requires : goal.first_slow-requires
-first_slow-requires c = (c.requires.0.laid.short, c.requires.1)
+first_slow-requires c = c.requires.1
 
 pub returns-in_err-first_slow : goal.returns-in_err-first_slow
 returns-in_err-first_slow c = rw (← c.first_slow.ensures, c.in_err-first_slow.was) (handed_on _ c.from_residual.ensures.1)

@@ -5,5 +5,5 @@ use Rattle.netlist.proofs.blocks.is_headed.Goals as goal
 pub returns : goal.returns
 returns c =
     let args = c.args in
-    headed-is args.s.now args.b args.pulse args.count args.finish c.first_number-first.ensures c.get16-number.ensures
+    headed-is args.pulse args.count args.finish args.b args.block.now c.first_number-first.ensures c.get16-number.ensures
     c.get16-its_count.ensures c.get16-its_finish.ensures c.zero_from-unused.ensures

@@ -1,23 +1,13 @@
--- `blocks::zero_from` meets its contract. The invariant: the answer from byte j is the answer from byte k. Assumes nothing.
-use Rattle.std.proofs.Common.{sym, ◌∙◌}
-use Rattle.netlist.proofs.BlockChecks.{zero-stop, zero-next, zero-end}
+-- `blocks::zero_from` meets its contract. Assumes nothing.
+use Rattle.std.proofs.Common.{eqb, drop, sym, ◌∙◌, rules, tests}
+use Rattle.std.proofs.lemmas.Iterator.{YieldsList-from_slice}
+use Rattle.std.proofs.lemmas.Iterator.Adapters.{YieldsList-from_skip}
+use Rattle.std.proofs.lemmas.Iterator.Search.{all_from_yields_List}
+use Rattle.netlist.proofs.BlockChecks.{zeros_all}
 use Rattle.netlist.proofs.blocks.zero_from.Goals as goal
-
-pub returns-then-s-b-ne0 : goal.returns-then-s-b-ne0
-returns-then-s-b-ne0 c =
-    let args = c.args in
-    let loop = c.loop-k in
-    sym
-    (loop.invariant ∙ zero-stop args.s.now args.b loop.k c.requires c.loop-k-test.true c.if-s-b-ne0.true)
-
-pub loop-k-preserved : goal.loop-k-preserved
-loop-k-preserved c =
-    let args = c.args in
-    let loop = c.loop-k in
-    loop.invariant ∙ zero-next args.s.now args.b loop.k c.requires c.loop-k-test.true
-    c.if-s-b-ne0.false
 
 pub returns : goal.returns
 returns c =
-    let args = c.args in
-    sym (c.loop-k.invariant ∙ zero-end args.s.now args.b c.loop-k.k c.loop-k-test.false)
+    let block = c.args.block.now in
+    all_from_yields_List (λ b. eqb b 0) _ _ _ c.all.ensures.ran (YieldsList-from_skip c.args.j (YieldsList-from_slice block (cc)) c.skip.ensures.count) (λ x b q k. search (rules, tests))
+    ∙ sym (zeros_all (drop c.args.j block))

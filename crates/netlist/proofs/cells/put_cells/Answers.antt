@@ -1,38 +1,47 @@
--- `cells::put_cells` meets its contract. The invariant: putting the rest in comes out as at the start. Assumes nothing.
-use Rattle.std.proofs.Common.{◌≡◌, ◌+◌, ◌-◌, ◌*◌, sym, refl, ◌∙◌, arith}
+-- `cells::put_cells` meets its contract. Assumes nothing.
+use Rattle.std.proofs.Common.{◌≡◌, ◌+◌, ◌-◌, ◌*◌, ◌<◌, refl, sym, ◌∙◌, inl, arith}
 use Rattle.netlist.specs.Offsets.{offset}
-use Rattle.netlist.proofs.Bytes.{cell-fits, put-more, put-done}
+use Rattle.netlist.proofs.Bytes.{cells-length, standing-first, cell-among, standing-next, put-more, put-done}
 use Rattle.netlist.proofs.cells.put_cells.Goals as goal
+use Rattle.netlist.proofs.cells.put_cells.Goals.{In-Some}
+
+pub loop-j-init-derived : goal.loop-j-init-derived
+loop-j-init-derived c =
+    let items = c.enumerate-j-items.ensures in
+    rw (c.into_iter-j-iterator.ensures.into_iter_gives, items.count, items.source)
+    ((tt, tt, inl (omega (arith, cells-length (offset c.args.layout) c.args.s.now c.args.k (c.args.k + c.args.n - c.args.k), c.requires.0.few))), tt)
+
+-- the cell that is given is one of the n
+given : (c : In-Some) → c.in-Some.j < c.args.n
+given c =
+    let steps = c.in-Some.ensures.steps in
+    omega (arith, cell-among c.loop-j.invariant.0 steps.0, steps.1, cells-length (offset c.args.layout) c.args.s.now c.args.k c.args.n)
+
+pub overflow_mul-j : goal.overflow_mul-j
+overflow_mul-j c = omega (arith, given (goal.at.overflow_mul-j c).In-Some, c.requires.0.few)
+
+pub overflow_add-i : goal.overflow_add-i
+overflow_add-i c = omega (arith, given (goal.at.overflow_add-i c).In-Some, c.requires.1)
 
 pub loop-j-init : goal.loop-j-init
 loop-j-init c =
+    let items = c.enumerate-j-items.ensures in
     let to : c.args.i + 6 * 0 ≡ c.args.i = omega arith in
-    let from : c.args.k + 0 ≡ c.args.k = omega arith in
-    let left : c.args.n - 0 ≡ c.args.n = omega arith in
-    rw (to, from, left) refl
+    let left : c.args.k + c.args.n - c.args.k ≡ c.args.n = omega arith in
+    rw (c.into_iter-j-iterator.ensures.into_iter_gives, items.count, items.source, to) (standing-first _ (rw left refl), rw left refl)
 
-pub cell_at-c-requires : goal.cell_at-c-requires
-cell_at-c-requires c =
-    let pre = c.requires in
-    (omega (arith, pre.0.few, c.loop-j-test.true), cell-fits pre.0 (c.args.k + c.loop-j.j) (omega (arith, c.loop-j-test.true)))
+pub put_cell-requires : goal.put_cell-requires
+put_cell-requires c = omega (arith, given (goal.at.put_cell-requires c).In-Some, c.requires.1)
 
 pub loop-j-preserved : goal.loop-j-preserved
 loop-j-preserved c =
-    let args = c.args in
-    let loop = c.loop-j in
-    let left = args.n - loop.j in
-    let to : args.i + 6 * loop.j + 6 ≡ args.i + 6 * (loop.j + 1) = omega arith in
-    let from : args.k + loop.j + 1 ≡ args.k + (loop.j + 1) = omega arith in
-    let less : left - 1 ≡ args.n - (loop.j + 1) = omega arith in
-    loop.invariant
-    ∙ rw (to, from, less) at
-    (put-more (offset args.layout) args.s.now (args.k + loop.j) left c.cell_at-c.result (omega (arith, c.loop-j-test.true)) c.cell_at-c.ensures loop.d
-    (args.i + 6 * loop.j) c.put_cell.ensures.put)
+    let known = c.loop-j.invariant in
+    let steps = c.in-Some.ensures.steps in
+    let to : c.args.i + 6 * c.loop-j.j-iterator.count + 6 ≡ c.args.i + 6 * (c.loop-j.j-iterator.count + 1) = omega arith in
+    let put = rw steps.1 at c.put_cell.ensures.put in
+    rw steps.2 (standing-next known.0 steps.0, known.1 ∙ rw to at (put-more c.in-Some.c steps.0 c.loop-j.d (c.args.i + 6 * c.loop-j.j-iterator.count) put))
 
 pub returns : goal.returns
 returns c =
-    let args = c.args in
-    let loop = c.loop-j in
-    sym
-    (loop.invariant
-    ∙ put-done (offset args.layout) args.s.now (args.k + loop.j) (args.n - loop.j) (omega (arith, c.loop-j-test.false)) loop.d (args.i + 6 * loop.j))
+    let known = c.loop-j.invariant in
+    sym (known.1 ∙ put-done c.in-None.ensures.steps.0.0 c.loop-j.d (c.args.i + 6 * c.loop-j.j-iterator.count))

@@ -19,10 +19,10 @@ returns c =
     let delay = c.keeps_use-right_delay.ensures in
     let a = c.keeps_use-right_a.ensures in
     let b = c.keeps_use-right_b.ensures in
-    λ net i. rw (
+    λ net n it. rw (
       c.stands.ensures,
-      delay net i.count (plain-delay _ row),
-      a net i.count (λ _. i.first),
-      b net i.count (λ _. i.second),
+      delay net n (plain-delay _ row),
+      a net n (λ _ l. it.first (rw n l)),
+      b net n (λ _ l. it.second (rw n l)),
       row,
     ) refl

@@ -1,5 +1,5 @@
 -- Refusal 8 or 25: the answer from node 0 is the answer from node i; at a parallel node, the sides cross on no number below x.
-use Prim.Native.Nat.{◌+◌, ◌-◌, ◌≤◌}
+use Prim.Native.Nat.{◌+◌, ◌-◌}
 use Rattle.model.specs.Program.{node_count, stmt_at, program_of}
 use Rattle.laws.specs.Refusals.Search.{Searched}
 use Rattle.program.specs.Roots.{clash_fault}

@@ -1,8 +1,11 @@
--- Refusal 28: the answer from node 0 is the answer from node i.
+-- Refusal 28: the answer from node 0 is the answer from node i, and the nodes from there on are left.
 use Rattle.model.specs.Program.{node_count}
 use Rattle.model.specs.ProgramChecks.{added_fault}
 use Rattle.laws.specs.Refusals.Search.{Searched}
+use Rattle.word.proofs.Chunks.{Cut}
 use Rattle.program.proofs.reading.first_added.Given as goal
 
 abbrev pub invariant-loop-i : goal.invariant-loop-i
-invariant-loop-i l = Searched (added_fault l.program) (node_count l.program) l.i
+invariant-loop-i l =
+    let at = l.i-iterator in
+    Cut 4 l.program at.count at.iter × Searched (added_fault l.program) (node_count l.program) at.count

@@ -1,25 +1,12 @@
 // Which cells an idle instant clears: control cells, gates, and ors of such words.
-ghost use Rattle.std.specs.Prelude.{true, List, ◌≡◌, ℕ, ◌≤◌, eqb, length, get_or};
+ghost use Rattle.std.specs.Prelude.{true, false, ◌≡◌, length, get_or};
 ghost use Rattle.model.specs.Circuit.{shape};
-ghost use Rattle.engine_laws.specs.Tables.{Nets, clears_test, Cleared};
+ghost use Rattle.engine_laws.specs.Tables.{clears_test, Cleared};
+ghost use Rattle.engine_tables.specs.Of.{Of};
 
-// Marks them; `check_cleared` tells whether the marks are right.
-pub fn find_cleared(cleared: &mut [u8], kind: &[u8], a: &[u16], b: &[u16], n: usize)
-    requires { (n ≤ 1024) × (1024 ≤ length cleared.old) × (1024 ≤ length kind.now) × (1024 ≤ length a.now) × (1024 ≤ length b.now) }
-    ensures { length cleared.new ≡ length cleared.old }
-{
-    for k in 0..n {
-        let i = (a[k] % 1024) as usize;
-        let j = (b[k] % 1024) as usize;
-        cleared[k] = match kind[k] {
-            32..=39 | 41 => 1,
-            7 => cleared[i] & cleared[j],
-            _ => 0,
-        };
-    }
-}
+use crate::cells::{Circuit, inputs};
 
-// Whether a cell of this kind may be marked as `own`, where its inputs are marked so.
+// Whether a cell of this kind may be marked as `own`, where its inputs are marked so: kinds and flags are those of clears_test.
 #[tactic(auto, unfolding(model::specs::Circuit::shape, model::specs::Circuit::cell_table, engine_laws::specs::Tables::clears_test))]
 fn clears(kind: u8, own: bool, first: bool, second: bool) -> bool
     ensures { result ≡ true → clears_test (shape kind) kind own first second ≡ true }
@@ -38,18 +25,32 @@ fn clears(kind: u8, own: bool, first: bool, second: bool) -> bool
     }
 }
 
-// Whether the marks are right, and no cell is a latch.
-pub fn check_cleared(cleared: &[u8], kind: &[u8], a: &[u16], b: &[u16], n: usize) -> bool
-    requires { (n ≤ 1024) × (1024 ≤ length cleared.now) × (1024 ≤ length kind.now) × (1024 ≤ length a.now) × (1024 ≤ length b.now) }
-    ensures { result ≡ true → (delays : List ℕ) → Nets kind.now delays a.now b.now n (Cleared (λ k. eqb (get_or cleared.now k 0) 1)) }
-{
-    for k in 0..n {
-        let i = (a[k] % 1024) as usize;
-        let j = (b[k] % 1024) as usize;
-        let passes = clears(kind[k], cleared[k] == 1, cleared[i] == 1, cleared[j] == 1);
-        if !passes {
-            return false;
+impl Circuit<'_> {
+    // Marks them; `check_cleared` tells whether the marks are right.
+    pub fn find_cleared(&self) -> [bool; 1024] {
+        let mut cleared = [false; 1024];
+        for (k, c) in self.cells.iter().enumerate() {
+            let (i, j) = inputs(*c);
+            cleared[k] = match c.kind {
+                32..=39 | 41 => true,
+                7 => cleared[i] & cleared[j],
+                _ => false,
+            };
         }
+        cleared
     }
-    true
+
+    // Whether the marks are right, and no cell is a latch.
+    pub fn check_cleared(&self, cleared: &[bool; 1024]) -> bool
+        ensures { result ≡ true → Of self.now.cells.now (Cleared (λ k. get_or cleared.now k false)) }
+    {
+        for (k, c) in self.cells.iter().enumerate() {
+            let (i, j) = inputs(*c);
+            let passes = clears(c.kind, cleared[k], cleared[i], cleared[j]);
+            if !passes {
+                return false;
+            }
+        }
+        true
+    }
 }

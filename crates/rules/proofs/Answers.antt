@@ -1,6 +1,6 @@
 -- The answer of a run, that of the main program's run, and that of a call by what the checks say.
 -- Assumes nothing.
-use Rattle.std.specs.Prelude.{Err}
+use Rattle.std.specs.Prelude.{Result, Ok, Err, IfOk, MatchResult}
 use mathlib.Core.Path.{◌≡◌, refl, sym, ◌∙◌, ap, ap₂}
 use mathlib.Core.Bool.{Bool, true, false}
 use mathlib.Core.List.{List, [], ◌∷◌}
@@ -27,7 +27,7 @@ use Rattle.laws.specs.Program.Passed.{accepted}
 use Rattle.laws.specs.Program.Admitted.{program-admitted, meaning-formed, meaning-timed, meaning-separate}
 use Rattle.laws.specs.Functional.Accepted.{table_alone, also-accepted}
 use Rattle.program.specs.declared.Scanned.{Scanned}
-use Rattle.program.specs.Shape.{AllShaped, scanned-laid}
+use Rattle.program.specs.Shape.{AllShaped, Tells, scanned-laid}
 use Rattle.rules.specs.declared.ways.Ran.{Ran}
 use Rattle.rules.specs.declared.ways.Ran.TheVariants.{Ended, Left, Unfinished}
 use Rattle.rules.specs.Ran.{store_of, run_of, Unended, Stands, main_answer, Ready}
@@ -65,30 +65,24 @@ main-ready options s r a S =
     }
 
 module _ (κ : Costs) (k : ℕ) (s bytes : List ℕ) (n : ℕ) where
-  -- where the budget is too large or not, and the start words are too few or not
-  abbrev answer_by : Bool → Bool → Answer
-  answer_by large few = answering (first (refuse_if large 13 0 ∷ refuse_if few 14 0 ∷ [])) (reference_answer n (run κ n (meaning (program_of 1 k s)) (word_at bytes)))
-
-  main-by : (large few : Bool) → ltb 1000000 n ≡ large → ltb (length bytes) 544 ≡ few → answer_by large few ≡ main_answer κ k s bytes n
+  -- what is found first of the budget and of the start words
+  main-by : (c : Checked) → first (over_budget n ∷ short (length bytes) 544 ∷ []) ≡ c
+      → answering c (reference_answer n (run κ n (meaning (program_of 1 k s)) (word_at bytes))) ≡ main_answer κ k s bytes n
   unfolding main_answer
-  main-by large few el ef = sym (ap₂ answer_by el ef)
+  main-by c e = sym (ap (λ (c : Checked). answering c (reference_answer n (run κ n (meaning (program_of 1 k s)) (word_at bytes)))) e)
 
-  pub main-over : 1000000 < n → refused_answer (record { number = 13; place = 0 }) ≡ main_answer κ k s bytes n
+  pub main-refused : (r : Refusal) → first (over_budget n ∷ short (length bytes) 544 ∷ []) ≡ Err r → refused_answer r ≡ main_answer κ k s bytes n
   unfolding answering
-  main-over h = main-by true _ (lt-ltb _ _ h) refl
+  main-refused r e = main-by (Err r) e
 
-  pub main-short : n ≤ 1000000 → length bytes < 544 → refused_answer (record { number = 14; place = 0 }) ≡ main_answer κ k s bytes n
-  unfolding answering
-  main-short h l = main-by false true (le-ltb _ _ h) (lt-ltb _ _ l)
-
-  pub main_runs : n ≤ 1000000 → 544 ≤ length bytes → Formed (meaning (program_of 1 k s)) → (ws : List ℕ) → ws ≡ listed (word_at bytes) 0 272
+  pub main_runs : first (over_budget n ∷ short (length bytes) 544 ∷ []) ≡ Accepted → Formed (meaning (program_of 1 k s)) → (ws : List ℕ) → ws ≡ listed (word_at bytes) 0 272
       → (r : Ran) (w : List ℕ) → Stands n (run κ n (meaning (program_of 1 k s)) (store_of ws)) r w → (a : Answer) → a ≡ reference_answer n (run_of r w) → a ≡ main_answer κ k s bytes n
   unfolding answering store_of
-  main_runs h l formed ws ew r w R a ea =
+  main_runs e formed ws ew r w R a ea =
       ea ∙ ap (reference_answer n) R.is
       ∙ same_answer κ (meaning (program_of 1 k s)) formed n (store_of ws) (word_at bytes)
       (λ x m. ap (λ (ws : List ℕ). get_or ws x 0) ew ∙ listed_at (word_at bytes) 272 0 x m ∙ ap (word_at bytes) (omega arith))
-      ∙ main-by false false (le-ltb _ _ h) (le-ltb _ _ l)
+      ∙ main-by Accepted e
 
 -- Calls --------------------------------------------------------------------------------------------------------------------------------
 
@@ -111,6 +105,12 @@ module _ (options : Options) (s bytes : List ℕ) (n : ℕ) where
   unfolding main_answer meaning program_of
   call-runs e = call_by Accepted e
 
+  -- by what the scan tells
+  pub call-told : (r : Result Scanned Refusal) {a : Answer} → Tells (time_in options.times) s (check_call options s) r
+      → MatchResult r (λ told. a ≡ main_answer (imperative options.pulse) options.procedures s bytes n) (λ e. a ≡ refused_answer e) → a ≡ reference_call options s bytes n
+  call-told (Ok told) T m = m ∙ call-runs T.0
+  call-told (Err e) T m = m ∙ call-refused e T
+
   functional-by : (c : Checked) → check_functional_call options s ≡ c
       → answering (first (c ∷ over_budget n ∷ short (length bytes) 544 ∷ [])) (reference_answer n (run functional n (meaning (program_of 1 0 s)) (word_at bytes)))
       ≡ reference_functional_call options s bytes n
@@ -131,3 +131,20 @@ unfolding check_functional_call
 functional-accepted options s a =
     let each = all-accept (options.checked ∷ check_functional options s ∷ []) a in
     also-accepted options s (each 0) (each 1)
+
+pub functional-told : (options : Options) (s bytes : List ℕ) (n : ℕ) (r : Result Scanned Refusal) {a : Answer}
+    → Tells (time_in options.times) s (check_functional_call options s) r
+    → MatchResult r (λ told. a ≡ main_answer functional 0 s bytes n) (λ e. a ≡ refused_answer e) → a ≡ reference_functional_call options s bytes n
+functional-told options s bytes n (Ok told) T m = m ∙ functional-runs options s bytes n T.0
+functional-told options s bytes n (Err e) T m = m ∙ functional-refused options s bytes n e T
+
+-- what is scanned can be run
+pub told-ready : (options : Options) (s : List ℕ) (r : Result Scanned Refusal) → Tells (time_in options.times) s (check_call options s) r
+    → IfOk r (λ told. Ready s told.ends options.procedures (meaning (program_of 1 options.procedures s)))
+told-ready options s (Ok told) T = main-ready options s told T.0 T.1
+told-ready options s (Err e) T = tt
+
+pub functional-ready : (options : Options) (s : List ℕ) (r : Result Scanned Refusal) → Tells (time_in options.times) s (check_functional_call options s) r
+    → IfOk r (λ told. Ready s told.ends 0 (meaning (program_of 1 0 s)))
+functional-ready options s (Ok told) T = main-ready (table_alone options) s told (functional-accepted options s T.0) T.1
+functional-ready options s (Err e) T = tt

@@ -73,17 +73,17 @@ pub record Ready (s ends : List ℕ) (k : ℕ) (P : Stmt) : Type 0 where
 abbrev pub expr_of : Interpreter → ℕ → Expr
 expr_of I i = expr_at I.tree.program.now i
 
-abbrev pub stmt_of : Interpreter → ℕ → ℕ → Stmt
-stmt_of I k i = meant_at k I.tree.program.now i
+abbrev pub stmt_of : Interpreter → ℕ → Stmt
+stmt_of I i = meant_at I.procedures I.tree.program.now i
 
-abbrev pub body_of : Interpreter → ℕ → ℕ → Stmt
-body_of I k p = called_at k I.tree.program.now p
+abbrev pub body_of : Interpreter → ℕ → Stmt
+body_of I p = called_at I.procedures I.tree.program.now p
 
 abbrev pub Sound : Interpreter → Stmt → Type 0
 Sound I P = Statable I.tree.program.now I.tree.ends.now P
 
-abbrev pub Runnable : Interpreter → ℕ → Stmt → Type 0
-Runnable I k P = Ready I.tree.program.now I.tree.ends.now k P
+abbrev pub Runnable : Interpreter → Stmt → Type 0
+Runnable I P = Ready I.tree.program.now I.tree.ends.now I.procedures P
 
 abbrev pub Runs : Interpreter → ℕ → Stmt → List ℕ → Ran → List ℕ → Type 0
 Runs I k P w r w' = Stands k (run (costs_of I.costs) k P (store_of w)) r w'

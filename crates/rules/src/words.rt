@@ -1,6 +1,6 @@
 // The words of a run, and the values of expressions on them. Of the 272 words sixteen are the variables', and 64 each array's.
 // Contracts are equations with model/Rules and model/Calls; specs/Ran says which store an array of words stands for.
-// Words are lent, so that none of the calls within each other has a copy of them.
+// Words are lent, so that none of the calls within each other has a copy of them. Widening casts are `as`, with which proofs compute.
 ghost use Rattle.std.specs.Prelude.{◌≡◌, ◌≤◌, length};
 ghost use Rattle.model.specs.Word.{element_word};
 ghost use Rattle.model.specs.Rules.{eval};
@@ -33,6 +33,7 @@ pub fn variables(words: &[u16; 272]) -> [u16; 16]
     held
 }
 
+// The word of a variable or an element; 0 past the last, as a store of model/Rules has one for every number.
 fn word_of(words: &[u16; 272], x: usize) -> u16
     ensures { result ≡ store_of words.now x }
 {
@@ -47,7 +48,7 @@ pub fn element_word(array: u16, index: u16) -> usize
 }
 
 impl Interpreter<'_> {
-    // The expression at node i, on these words.
+    // The expression at node i, on these words; where there is none it is 0, as eval of model/Rules has it.
     pub fn eval_at(&self, i: usize, words: &[u16; 272]) -> u16
         requires { Laid self.now.tree.program.now self.now.tree.ends.now }
         ensures { result ≡ eval (expr_of self.now i) (store_of words.now) }
@@ -57,6 +58,7 @@ impl Interpreter<'_> {
             return 0;
         }
         let node = nodes::read_node(self.tree.program, i);
+        // A number, as expr_at of model/Program reads it and word::operate takes it.
         let kind = node.kind;
         if 16 <= kind {
             return 0;

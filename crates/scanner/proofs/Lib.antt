@@ -1,5 +1,5 @@
 -- The laws behind the proofs of the functions.
 pub mod Numbers
 pub mod Runs
-pub mod Words
+pub mod WordLaws
 pub mod Codes

@@ -8,7 +8,8 @@ use native.Mathlib.Omega.{arith}
 use lib.Dec.{eqb}
 use Rattle.model.specs.Text.{c_at, numeral, name, sign, word_code, limit_after, run_token}
 use Rattle.model.specs.Word.{pick}
-use Rattle.std.specs.Prelude.{Some, None}
+use Rattle.std.specs.Prelude.{Option, Some, None, MatchOption}
+use Rattle.model.specs.declared.texts.Token.{Token}
 use Rattle.scanner.specs.Scanning.{number_of, name_of}
 use Rattle.laws.specs.Refusals.Laws.{by_bool}
 
@@ -30,6 +31,11 @@ picked false m e = cc
 unpicked : (b : Bool) (m : ℕ) → None ≡ pick b (Some m) None → b ≡ false
 unpicked true m e = cc
 unpicked false m e = refl
+
+-- a token without a value, of a code n where none stands for 0
+pub sign-told : (r : Option ℕ) {t : Token} {n : ℕ} → MatchOption r (t ≡ sign 0) (λ c. t ≡ sign c) → MatchOption r (n ≡ 0) (λ c. c ≡ n) → t ≡ sign n
+sign-told None a b = rw b a
+sign-told (Some c) a b = rw (← b) a
 
 module _ (p : ℕ) (w : List ℕ) where
   pub token-number : {n : ℕ} → Some n ≡ number_of (limit_after p) w → numeral n ≡ run_token p w

@@ -6,6 +6,7 @@ use Rattle.model.specs.declared.texts.Token.{Token}
 use Rattle.model.specs.Word.{pick}
 use Rattle.model.specs.Text.{blank, value_from, is_number, is_name, token_at, size_at, Lexeme, lexeme, words_from}
 use Rattle.scanner.specs.declared.Scanned.{Scanned}
+use Rattle.scanner.specs.declared.Words.{Words}
 
 -- the place after the blanks from place i on
 abbrev pub after_blanks : ℕ → List ℕ → ℕ
@@ -37,7 +38,13 @@ unfoldable pub words_ahead : List ℕ → Option Scanned → List Lexeme
 words_ahead text None = []
 words_ahead text (Some w) = lexeme w.token w.place ∷ words_from 0 w.token.code w.end (drop w.end text)
 
--- what that says of the words from place `from` on: they are those from r on, which has a byte at least and ends in the text
+-- what is left of the words after a first one that was told, or after none
+pub record Steps (ws : Words) (r : Option Scanned) (left : Words) : Type 0 where
+  pub first : r ≡ next_word ws.previous ws.at ws.text.now
+  pub text : left.text.now ≡ ws.text.now
+  pub behind : IfSome r (λ w. (left.at ≡ w.end) × (left.previous ≡ w.token.code))
+
+-- what a first word says of the words from place `from` on: they are those from r on, which has a byte at least and ends in the text
 pub record Next (text : List ℕ) (from p : ℕ) (r : Option Scanned) : Type 0 where
   pub words : words_from 0 p from (drop from text) ≡ words_ahead text r
   pub stands : IfSome r (λ w. (from ≤ w.place) × (w.place < w.end) × (w.end ≤ length text))

@@ -15,7 +15,8 @@ use Rattle.std.proofs.lemmas.List.Sums.{prefix_len-le-length}
 use Rattle.model.specs.Text.{blank, letter, digit, run_length, two_code, token_at, size_at, Lexeme, lexeme, words_from}
 use Rattle.laws.specs.Refusals.Laws.{by_bool, not-both}
 use Rattle.scanner.specs.declared.Scanned.{Scanned}
-use Rattle.scanner.specs.Scanning.{after_blanks, word_here, words_ahead, next_word, Next}
+use Rattle.scanner.specs.declared.Words.{Words}
+use Rattle.scanner.specs.Scanning.{after_blanks, word_here, words_ahead, next_word, Steps, Next}
 
 -- What begins a list -------------------------------------------------------------------------------------------------------------------
 
@@ -169,3 +170,7 @@ module _ (text : List ℕ) (from p : ℕ) where
 
   pub next : {r : Option Scanned} → r ≡ next_word p from text → Next text from p r
   next e = rw e found-next
+
+-- the same of a step through the words of a text
+pub steps-next : (text : List ℕ) (ws : Words) {left : Words} {r : Option Scanned} → ws.text.now ≡ text → Steps ws r left → Next text ws.at ws.previous r
+steps-next text ws e s = next text ws.at ws.previous (rw e at s.first)

@@ -2,8 +2,8 @@
 // specs/Scanning; a word is handed on as a part of the text. `|` and `&` stand between tests where both sides are cheap.
 #![tactic(auto)]
 
-ghost use Rattle.std.specs.Prelude.{◌≡◌, true, ◌+◌, ◌≤◌, ◌<◌, length, get_or, drop};
-ghost use Rattle.model.specs.Text.{blank, digit, letter, run_length, all_digits, value_from, word_code, two_code, one_code, limit_after, run_token, words_of, outside};
+ghost use Rattle.std.specs.Prelude.{◌≡◌, true, ◌+◌, ◌≤◌, ◌<◌, length, get_or, drop, MatchOption};
+ghost use Rattle.model.specs.Text.{sign, blank, digit, letter, run_length, all_digits, value_from, word_code, two_code, one_code, limit_after, run_token, words_of, outside};
 ghost use Rattle.scanner.specs.Scanning.{after_blanks, number_of, name_of, word_here, next_word};
 
 use model::texts::Token;
@@ -40,13 +40,6 @@ fn is_letter(c: u8) -> bool
     c.is_ascii_alphabetic()
 }
 
-// The byte at i, 0 after the end.
-fn byte_at(text: &[u8], i: usize) -> u8
-    ensures { result ≡ get_or text.now i 0 }
-{
-    text.get(i).copied().unwrap_or(0)
-}
-
 // The bytes from i on, none behind the end.
 fn behind(text: &[u8], i: usize) -> &[u8]
     ensures { result.now ≡ drop i text.now }
@@ -61,7 +54,8 @@ fn skip_blanks(text: &[u8], i: usize) -> usize
     i + behind(text, i).iter().take_while(|c| is_blank(**c)).count()
 }
 
-// The place after the letters and digits from i on.
+// The place after the letters and digits from i on. Like the blanks', it is a chain over take_while, which takes the test already: a function over both
+// would take the closure once more.
 fn run_end(text: &[u8], i: usize) -> usize
     ensures { result ≡ i + run_length (drop i text.now) }
 {
@@ -105,6 +99,7 @@ fn number(w: &[u8], limit: u16) -> Option<u16>
     if (1 < n) & (w[0] == b'0') {
         return None;
     }
+    // it fits, for the limit does: a try_from would look twice
     let v = value(w);
     if v <= u32::from(limit) {
         Some(v as u16)
@@ -123,22 +118,23 @@ fn name(w: &[u8]) -> Option<u16>
     }
 }
 
+// The code of a word of the language.
 #[tactic(auto, using(crate::proofs::Codes::by_length))]
-fn word_code(w: &[u8]) -> u8
-    ensures { result ≡ word_code w.now }
+fn word_code(w: &[u8]) -> Option<u8>
+    ensures { MatchOption result (word_code w.now ≡ 0) (λ code. code ≡ word_code w.now) }
 {
     match w {
-        b"ok" => 16,
-        b"tick" => 17,
-        b"if" => 21,
-        b"while" => 22,
-        b"repeat" => 23,
-        b"then" => 32,
-        b"else" => 33,
-        b"do" => 34,
-        b"until" => 35,
-        b"end" => 36,
-        _ => 0,
+        b"ok" => Some(16),
+        b"tick" => Some(17),
+        b"if" => Some(21),
+        b"while" => Some(22),
+        b"repeat" => Some(23),
+        b"then" => Some(32),
+        b"else" => Some(33),
+        b"do" => Some(34),
+        b"until" => Some(35),
+        b"end" => Some(36),
+        _ => None,
     }
 }
 
@@ -162,44 +158,53 @@ fn run_token(w: &[u8], previous: u8) -> Token
     if let Some(value) = name(w) {
         return Token { code: 2, value };
     }
+    sign(word_code(w))
+}
+
+// A token that has no value. Codes are numbers, 0 outside the language: token_at of model/Text has them so, and with it each contract down to read_text's.
+fn sign(code: Option<u8>) -> Token
+    ensures { MatchOption code (result ≡ sign 0) (λ c. result ≡ sign c) }
+{
     Token {
-        code: word_code(w),
+        code: code.unwrap_or(0),
         value: 0,
     }
 }
 
-// Signs: their codes, 0 where there is none, as the definitions of model/Text have it ----------------------------------------------------
+// Signs ----------------------------------------------------------------------------------------------------------------------------------
 
+// The sign of two characters that some bytes begin with.
 #[tactic(auto, unfolding(model::specs::Text::two_code))]
-fn two_code(c: u8, d: u8) -> u8
-    ensures { result ≡ two_code c d }
+fn two_code(s: &[u8]) -> Option<u8>
+    ensures { MatchOption result (two_code (get_or s.now 0 0) (get_or s.now 1 0) ≡ 0) (λ code. (0 < code) × (code ≡ two_code (get_or s.now 0 0) (get_or s.now 1 0))) }
 {
-    match (c, d) {
-        (b':', b'=') => 18,
-        (b'|', b'|') => 20,
-        _ => 0,
+    match s {
+        [b':', b'=', ..] => Some(18),
+        [b'|', b'|', ..] => Some(20),
+        _ => None,
     }
 }
 
+// The sign of one character.
 #[tactic(auto, unfolding(model::specs::Text::one_code))]
-fn one_code(c: u8) -> u8
-    ensures { result ≡ one_code c }
+fn one_code(c: u8) -> Option<u8>
+    ensures { MatchOption result (one_code c ≡ 0) (λ code. code ≡ one_code c) }
 {
     match c {
-        b'!' => 3,
-        b'+' => 4,
-        b'-' => 5,
-        b'&' => 6,
-        b'|' => 7,
-        b'=' => 8,
-        b'<' => 9,
-        b';' => 19,
-        b'@' => 37,
-        b'(' => 38,
-        b')' => 39,
-        b'{' => 40,
-        b'}' => 41,
-        _ => 0,
+        b'!' => Some(3),
+        b'+' => Some(4),
+        b'-' => Some(5),
+        b'&' => Some(6),
+        b'|' => Some(7),
+        b'=' => Some(8),
+        b'<' => Some(9),
+        b';' => Some(19),
+        b'@' => Some(37),
+        b'(' => Some(38),
+        b')' => Some(39),
+        b'{' => Some(40),
+        b'}' => Some(41),
+        _ => None,
     }
 }
 
@@ -215,31 +220,20 @@ fn word_at(text: &[u8], place: usize, previous: u8) -> Scanned
         let token = run_token(&text[place..end], previous);
         return Scanned { token, place, end };
     }
-    let c = text[place];
-    let two = two_code(c, byte_at(text, place + 1));
-    if two == 0 {
-        return Scanned {
-            token: Token {
-                code: one_code(c),
-                value: 0,
-            },
-            place,
-            end: place + 1,
-        };
-    }
+    let (code, size) = match two_code(behind(text, place)) {
+        Some(code) => (Some(code), 2),
+        None => (one_code(text[place]), 1),
+    };
     Scanned {
-        token: Token {
-            code: two,
-            value: 0,
-        },
+        token: sign(code),
         place,
-        end: place + 2,
+        end: place + size,
     }
 }
 
 // The first word from a place on, after a token of code `previous`.
 #[tactic(auto, unfolding(crate::specs::Scanning::next_word))]
-pub fn next_word(text: &[u8], from: usize, previous: u8) -> Option<Scanned>
+fn next_word(text: &[u8], from: usize, previous: u8) -> Option<Scanned>
     ensures { result ≡ next_word previous from text.now }
 {
     let place = skip_blanks(text, from);
@@ -250,19 +244,54 @@ pub fn next_word(text: &[u8], from: usize, previous: u8) -> Option<Scanned>
     }
 }
 
+// The words of a text from byte `at` on, after a token of code `previous`; before the first there is code 0, as in words_of of model/Text.
+#[derive(Clone, Copy)]
+pub struct Words<'a> {
+    pub text: &'a [u8],
+    pub at: usize,
+    pub previous: u8,
+}
+
+impl<'a> Words<'a> {
+    // All words of a text.
+    pub fn of(text: &'a [u8]) -> Words<'a>
+        ensures from { (result.text.now ≡ text.now) × (result.at ≡ 0) × (result.previous ≡ 0) }
+    {
+        Words {
+            text,
+            at: 0,
+            previous: 0,
+        }
+    }
+}
+
+impl<'a> Iterator for Words<'a> {
+    ghost use Rattle.std.specs.Prelude.{◌-◌, length};
+    ghost use Rattle.std.specs.Iterator.{at_most};
+    ghost use Rattle.scanner.specs.Scanning.{Steps};
+
+    type Item = Scanned;
+
+    ghost next_gives = { Steps };
+
+    ghost remaining = { λ ws. at_most (length ws.text.now - ws.at) };
+
+    fn next(&mut self) -> Option<Scanned> {
+        let word = next_word(self.text, self.at, self.previous)?;
+        self.at = word.end;
+        self.previous = word.token.code;
+        Some(word)
+    }
+}
+
 // Refusal 17, but for the text's length: the first word that is outside the language.
 pub fn check_words(text: &[u8]) -> Checked
     ensures { result ≡ outside (words_of text.now) }
 {
-    let mut at: usize = 0;
-    let mut previous: u8 = 0;
-    // no `for`: where a word begins, and how it is read, hangs on the one before
-    while let Some(next) = next_word(text, at, previous) {
+    for next in Words::of(text) {
         if next.token.code == 0 {
             return refuse(17, next.place);
         }
-        previous = next.token.code;
-        at = next.end;
     }
     Ok(())
 }

@@ -1,22 +1,27 @@
 -- How the reader over all words of a text goes from a word to the next, breaks, or ends.
 -- Assumes nothing.
 use Rattle.std.proofs.Common.{◌≡◌, ℕ, Ok, Err, suc, ◌≤◌, true, false, List, [], ◌∷◌, length, drop, sym, refl, ap, ◌∙◌, arith}
-use Rattle.std.specs.Prelude.{Some, None, Err}
+use Rattle.std.specs.Prelude.{Option, Some, None, Err}
 use Rattle.model.specs.Text.{lexeme, words_from, limit_after}
 use Rattle.model.specs.Reader.{step, is_broken, complete, bad, reader_at_first, read_from}
 use Rattle.model.specs.TextCalls.{reading_of}
 use Rattle.laws.specs.Text.Runs.{reads_end, reads_short, reads-broken, reads_on}
 use Rattle.scanner.specs.declared.Scanned.{Scanned}
+use Rattle.scanner.specs.declared.Words.{Words}
 use Rattle.text.specs.declared.machine.Machine.{Machine}
-use Rattle.scanner.specs.Scanning.{words_ahead, next_word, Next}
+use Rattle.scanner.specs.Scanning.{words_ahead, next_word, Steps, Next}
 use Rattle.scanner.specs.ScanningLaws.{next}
 use Rattle.text.specs.Shown.{Lists, Shows, Grows, FollowsWithin, limit_of, frames_in}
 use Rattle.text.specs.Parsing.{Parses, Room, Going}
-use Rattle.scanner.proofs.Words.{value-limited}
+use Rattle.scanner.proofs.WordLaws.{value-limited}
 use Rattle.text.proofs.Bounds.{within_first, within_step, within-up}
 use Rattle.text.proofs.Limits.{admits-step}
 
 module _ (text : List ℕ) where
+  -- what a step through the words of the text tells
+  pub told-by : {ws left : Words} {r : Option Scanned} → ws.text.now ≡ text → Steps ws r left → r ≡ next_word ws.previous ws.at text
+  told-by e s = rw e at s.first
+
   pub going-first : {m : Machine} {l : Lists} → m.height ≡ 0 → Shows reader_at_first m l → Room l → Going text 0 0 m l
   unfolding reading_of limit_after limit_of
   going-first {m} {l} h s room =

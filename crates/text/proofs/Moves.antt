@@ -1,16 +1,16 @@
 -- The moves of a machine: what each shows, from what the functions on frames and on nodes leave. Assumes nothing.
-use Rattle.std.proofs.Common.{◌≡◌, ℕ, ◌+◌, ◌-◌, ◌%◌, List, ◌∷◌, length, drop, sym, refl, ◌∙◌, arith}
+use Rattle.std.proofs.Common.{◌≡◌, ℕ, ◌+◌, ◌-◌, ◌%◌, ◌<◌, List, ◌∷◌, length, drop, sym, refl, ◌∙◌, arith}
 use Rattle.model.specs.declared.texts.Mode.{Mode}
 use Rattle.model.specs.declared.texts.Mode.TheVariants.{Statement}
 use Rattle.model.specs.declared.Node.{Node}
 use Rattle.model.specs.Program.{node, node_bytes}
-use Rattle.model.specs.Reader.{reader_at_first, frame, reach_of, pop, top_start, insert_at, with_node_delay, leaf, opened, opened_node, between, closed, turned, reduced, with_delay}
+use Rattle.model.specs.Reader.{Reader, reader, reader_at_first, frame, reach_of, pop, top_start, insert_at, with_node_delay, leaf, opened, opened_node, between, closed, turned, reduced, with_delay}
 use Rattle.text.specs.declared.frames.Open.{Open}
 use Rattle.text.specs.declared.frames.Popped.{Popped}
 use Rattle.text.specs.declared.machine.Machine.{Machine}
-use Rattle.text.specs.Shown.{frames_in, Pops, Keeps, Lists, lists, Shows, Follows, FollowsWithin, with_mode, rewound}
+use Rattle.text.specs.Shown.{frames_in, Pops, Keeps, Lists, lists, Shows, Follows, FollowsWithin, with_mode, rewound, with_node}
 use Rattle.text.proofs.Stack.{frames-drop}
-use Rattle.text.proofs.Bytes.{insert-length, delay-length}
+use Rattle.text.proofs.Bytes.{delay-length}
 use Rattle.text.proofs.Bounds.{top-bound}
 
 abbrev machine : Mode → ℕ → ℕ → ℕ → ℕ → Machine
@@ -30,18 +30,16 @@ first-shown l = record { mode = refl; start = refl; frames = refl; cursor = refl
 module _ (s : List Open) (d : List ℕ) (m : Machine) where
   -- Nodes --------------------------------------------------------------------------------------------------------------------------------
 
-  pub leaf-shown : (d' : List ℕ) (mode : Mode) (n : Node) {u : ℕ} → Inserts m.cursor m.count n d d' → u ≡ (m.cursor + 1) % 65536
-      → FollowsWithin (leaf mode n) m (lists s d) (machine mode m.cursor m.height u (m.count + 1)) (lists s d')
+  -- what a move with a node more at the cursor shows
+  abbrev Shown : Machine → List ℕ → Node → Type 0
+  Shown x d' n = (r : Reader) → r.cursor < 65535 → Shows r m (lists s d) → Shows (with_node m.cursor n r) x (lists s d')
+
+  pub leaf-shown : (d' : List ℕ) (mode : Mode) (n : Node) (x : Machine) → Shown x d' n
+      → FollowsWithin (leaf mode n) m (lists s d) (machine mode m.cursor x.height x.cursor x.count) (lists s d')
   unfolding leaf
-  leaf-shown d' mode n i e r w h =
-      record {
-        mode = refl;
-        start = h.cursor;
-        frames = h.frames;
-        cursor = omega (arith, w.cursor, h.cursor);
-        count = omega (arith, insert-length r.cursor n r.nodes, h.count);
-        nodes = rw h.cursor at (i r.nodes h.count h.nodes);
-      }
+  leaf-shown d' mode n x f r w h =
+      let o = f r (omega (arith, w.cursor)) h in
+      rw (← h.cursor) (record { mode = refl; start = refl; frames = o.frames; cursor = o.cursor ∙ rw h.cursor refl; count = o.count; nodes = o.nodes })
 
   pub delay-shown : (d' : List ℕ) (mode : Mode) (p v : ℕ) → Delays p m.count v d d'
       → Follows (with_delay mode p v) m (lists s d) (machine mode p m.height m.count m.count) (lists s d')
@@ -72,38 +70,26 @@ module _ (s : List Open) (d : List ℕ) (m : Machine) where
           nodes = h.nodes;
         }
 
-    pub opened-node-shown : (d' : List ℕ) (mode : Mode) (code : ℕ) (n : Node) {u : ℕ}
-        → frames_in s' (m.height + 1) ≡ frame code m.cursor ∷ frames_in s m.height → Inserts m.cursor m.count n d d'
-        → u ≡ (m.cursor + 1) % 65536
-        → FollowsWithin (opened_node mode code n) m (lists s d) (machine mode m.start (m.height + 1) u (m.count + 1)) (lists s' d')
-    unfolding opened_node
-    opened-node-shown d' mode code n e i t r w h =
-        record {
-          mode = refl;
-          start = h.start;
-          frames = rw (h.cursor, h.frames) at e;
-          cursor = omega (arith, w.cursor, h.cursor);
-          count = omega (arith, insert-length r.cursor n r.nodes, h.count);
-          nodes = rw h.cursor at (i r.nodes h.count h.nodes);
-        }
+    pub opened-node-shown : (d' : List ℕ) (mode : Mode) (code : ℕ) (n : Node) {o x : Machine}
+        → Follows (opened mode code) m (lists s d) o (lists s' d)
+        → ((r : Reader) → r.cursor < 65535 → Shows r o (lists s' d) → Shows (with_node m.cursor n r) x (lists s' d'))
+        → FollowsWithin (opened_node mode code n) m (lists s d) x (lists s' d')
+    unfolding opened opened_node
+    opened-node-shown d' mode code n f g r w h = rw h.cursor at (g (opened mode code r) (omega (arith, w.cursor)) (f r h))
 
-    pub between-shown : (d' : List ℕ) (mode : Mode) (code : ℕ) {reach : ℕ} {p : Popped} {u : ℕ} → reach ≡ reach_of code
+    pub between-shown : (d' : List ℕ) (mode : Mode) (code : ℕ) {reach : ℕ} {p : Popped} {x : Machine} → reach ≡ reach_of code
         → Pops s reach m.start m.height p → frames_in s' (p.height + 1) ≡ frame code p.start ∷ frames_in s p.height
-        → Inserts p.start m.count (node code 0 0) d d' → u ≡ (m.cursor + 1) % 65536
-        → FollowsWithin (between mode code) m (lists s d) (machine mode p.start (p.height + 1) u (m.count + 1)) (lists s' d')
+        → ((r : Reader) → r.cursor < 65535 → Shows r (machine mode p.start (p.height + 1) m.cursor m.count) (lists s' d)
+        → Shows (with_node p.start (node code 0 0) r) x (lists s' d'))
+        → FollowsWithin (between mode code) m (lists s d) x (lists s' d')
     unfolding between
-    between-shown d' mode code {reach} {p} q pops e i t r w h =
+    between-shown d' mode code {reach} {p} q pops e g r w h =
         let p' = pop (reach_of code) r.start r.frames in
         let a : p.start ≡ p'.start = rw (q, h.start, h.frames) at pops.start in
         let b : frames_in s p.height ≡ p'.frames = rw (q, h.start, h.frames) at pops.frames in
-        record {
-          mode = refl;
-          start = a;
-          frames = rw (a, b) at e;
-          cursor = omega (arith, w.cursor, h.cursor);
-          count = omega (arith, insert-length p'.start (node code 0 0) r.nodes, h.count);
-          nodes = rw a at (i r.nodes h.count h.nodes);
-        }
+        let opened : Shows (reader mode p'.start (frame code p'.start ∷ p'.frames) r.cursor r.nodes) (machine mode p.start (p.height + 1) m.cursor m.count) (lists s' d) =
+        record { mode = refl; start = a; frames = rw (a, b) at e; cursor = h.cursor; count = h.count; nodes = h.nodes } in
+        rw a at (g _ (omega (arith, w.cursor)) opened)
 
     pub turned-shown : (mode : Mode) (code : ℕ) {p k : ℕ} → p ≡ top_start (frames_in s m.height) → k ≡ m.height - 1
         → frames_in s' (k + 1) ≡ frame code p ∷ frames_in s k

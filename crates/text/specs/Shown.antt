@@ -1,11 +1,11 @@
 -- What a machine and its two lists show of the reader of model/Reader: the stack of what is still open, and the bytes of the nodes.
 -- Assumes nothing: definitions.
-use Rattle.std.specs.Prelude.{◌≡◌, ℕ, zero, suc, ◌+◌, ◌*◌, ◌<◌, ◌≤◌, max, List, [], ◌∷◌, length, take, slice_index_or}
+use Rattle.std.specs.Prelude.{◌≡◌, ℕ, zero, suc, ◌+◌, ◌*◌, ◌<◌, ◌≤◌, max, Bool, ltb, List, [], ◌∷◌, length, take, slice_index_or}
 use Rattle.model.specs.declared.texts.Mode.{Mode}
 use Rattle.model.specs.declared.texts.Mode.TheVariants.{Statement, AfterStatement, Operand, AfterOperand, Becomes, Ticks, Delay, Body, Broken}
 use Rattle.model.specs.declared.Node.{Node}
 use Rattle.model.specs.Program.{node_bytes}
-use Rattle.model.specs.Reader.{Frame, frame, Reader, reader, pop, top_start}
+use Rattle.model.specs.Reader.{Frame, frame, Reader, reader, insert_at, hold_of, pop, top_start}
 use Rattle.text.specs.declared.frames.Open.{Open}
 use Rattle.text.specs.declared.frames.Popped.{Popped}
 use Rattle.text.specs.declared.machine.Machine.{Machine}
@@ -23,6 +23,10 @@ no_frame = record { code = 0; start = 0 }
 unfoldable pub frames_in : List Open → ℕ → List Frame
 frames_in stack zero = []
 frames_in stack (suc h) = frame_of (slice_index_or stack h no_frame) ∷ frames_in stack h
+
+-- what is open holds more tightly than reach
+abbrev pub tight : ℕ → Open → Bool
+tight reach x = ltb reach (hold_of x.code)
 
 -- the operators on top that are complete are taken off
 pub record Pops (stack : List Open) (reach p h : ℕ) (r : Popped) : Type 0 where
@@ -86,12 +90,15 @@ Follows f m before x after = (r : Reader) → Shows r m before → Shows (f r) x
 abbrev pub FollowsWithin : (Reader → Reader) → Machine → Lists → Machine → Lists → Type 0
 FollowsWithin f m before x after = (r : Reader) → Within 4095 r → Shows r m before → Shows (f r) x after
 
--- moves that model/Reader writes out: into another mode, and with the cursor behind the node of the frame on top
+-- moves that model/Reader writes out: into another mode, with the cursor behind the node of the frame on top, and with a node more
 abbrev pub with_mode : Mode → Reader → Reader
 with_mode m r = reader m r.start r.frames r.cursor r.nodes
 
 abbrev pub rewound : Reader → Reader
 rewound r = reader r.mode r.start r.frames (top_start r.frames + 1) r.nodes
+
+abbrev pub with_node : ℕ → Node → Reader → Reader
+with_node at n r = reader r.mode r.start r.frames (r.cursor + 1) (insert_at at n r.nodes)
 
 -- "right after `@` or `tick` to 255": the largest value of a token that is read in this mode
 unfoldable pub limit_of : Mode → ℕ

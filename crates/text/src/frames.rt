@@ -2,16 +2,18 @@
 // Contracts are equations with the definitions of model/Reader, of the frames that such a list has (`frames_in`, specs/Shown).
 ghost use Rattle.std.specs.Prelude.{◌≡◌, ◌+◌, ◌<◌, ◌≤◌, ◌∷◌, length};
 ghost use Rattle.model.specs.Reader.{hold_of, reach_of, top_code, top_start};
-ghost use Rattle.text.specs.Shown.{frame_of, frames_in, Pops};
+ghost use Rattle.std.specs.List.{suffix_len};
+ghost use Rattle.text.specs.Shown.{frame_of, frames_in, tight, Pops};
 
-// Something that is still open: the code of its token, and the number of its first node.
+// Something that is still open: the code of its token, a number as in the frames of model/Reader, and the number of its first node.
 #[derive(Clone, Copy)]
 pub struct Open {
     pub code: u8,
     pub start: u16,
 }
 
-// What stands in a stack above its frames, and what an empty one tells of its frame on top.
+// What stands in a stack above its frames, and what an empty one tells of its frame on top: no Option, since top_code and top_start of
+// model/Reader are 0 there, and 0 is what the tests of `reader` go by.
 pub const NO_FRAME: Open = Open { code: 0, start: 0 };
 
 // Where what was read begins, and how high the stack is.
@@ -38,7 +40,7 @@ fn hold_of(code: u8) -> u8
     }
 }
 
-// How far a new operator reaches back.
+// How far a new operator reaches back: a table of its own in model/Reader, and not the one above with other numbers.
 #[tactic(auto, unfolding(model::specs::Reader::reach_of))]
 pub fn reach_of(code: u8) -> u8
     ensures { result ≡ reach_of code }
@@ -54,25 +56,31 @@ pub fn reach_of(code: u8) -> u8
     }
 }
 
+// How many frames on top hold more tightly than reach.
+fn tighter(stack: &[Open], reach: u8) -> usize
+    ensures { result ≡ suffix_len (tight reach) stack.now }
+{
+    stack
+        .iter()
+        .rev()
+        .take_while(|open| reach < hold_of(open.code))
+        .count()
+}
+
 // Takes the operators off that hold more tightly than reach.
 pub fn pop(stack: &[Open], reach: u8, start: u16, height: usize) -> Popped
     requires { height ≤ length stack.now }
     ensures { Pops stack.now reach start height result }
 {
-    let mut p = start;
-    for i in (0..height).rev() {
-        let top = stack[i];
-        if hold_of(top.code) <= reach {
-            return Popped {
-                start: p,
-                height: i + 1,
-            };
-        }
-        p = top.start;
-    }
+    let kept = height - tighter(&stack[..height], reach);
+    let start = if kept < height {
+        stack[kept].start
+    } else {
+        start
+    };
     Popped {
-        start: p,
-        height: 0,
+        start,
+        height: kept,
     }
 }
 

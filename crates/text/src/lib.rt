@@ -20,7 +20,8 @@ mod parsing; // the reader over all words
 use model::sizes::{MOST_NODES, PROGRAM_MOST, TEXT_MOST};
 use model::{Checked, Options, Refusal, Written, refuse};
 
-// So many nodes as bytes of a program: above 200 it is too long, whatever they are.
+// So many nodes as bytes of a program: above 200 it is too long, whatever they are. A program has no finish, and is told with 0 for it: definition
+// `read_text_call` has the answer of a call that writes.
 fn sized(n: usize) -> Result<Written, Refusal>
     ensures { result ≡ (writing (refuse_if (nat_lt 800 (4 * n)) 1 0) [] (4 * n) 0 []).answer }
 {

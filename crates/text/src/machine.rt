@@ -1,15 +1,19 @@
 // What the reader keeps, and its moves: a function for each definition under "Steps" of model/Reader, on the stack, the nodes and the machine.
 // Contracts: whatever reader is shown at entry, at exit the one is shown that the definition makes of it (`Follows`, specs/Shown).
 ghost use Rattle.std.specs.Prelude.{◌≡◌, ◌<◌, ◌≤◌, List, ℕ, length};
-ghost use Rattle.model.specs.Reader.{reader_at_first, leaf, opened, opened_node, between, closed, turned, reduced, with_delay};
+ghost use Rattle.model.specs.Reader.{Reader, reader_at_first, leaf, opened, opened_node, between, closed, turned, reduced, with_delay};
 ghost use Rattle.text.specs.declared.frames.Open.{Open};
-ghost use Rattle.text.specs.Shown.{lists, Shows, Ready, Grows, Follows, FollowsWithin, Lists, with_mode, rewound};
+ghost use Rattle.text.specs.Shown.{lists, Shows, Ready, Grows, Follows, FollowsWithin, Lists, with_mode, rewound, with_node};
 
 use crate::frames::{self, Open};
+use crate::nodes::bare;
 use model::Node;
 use model::texts::Mode;
 
 // mode: what is expected. start: the first node of what was just read. height: of the stack. cursor: where the next node goes. count: of nodes.
+// Height and count stand beside their lists, which are lent: there is no heap, and the nodes are the caller's bytes (program_of). A text of 4,096
+// bytes has more nodes than these have room for, and they are counted all the same. So each move asks
+// that the height lies within the stack: by a ghost field of Machine no literal could say `..self`, and each move would write out all five fields.
 #[derive(Clone, Copy)]
 pub struct Machine {
     pub mode: Mode,
@@ -41,19 +45,30 @@ impl Machine {
         Machine { mode, ..self }
     }
 
+    // A node more, before node `at`; the cursor goes on by it.
+    fn with_node(self, nodes: &mut [u8], at: u16, node: Node) -> Machine
+        requires { (length nodes.old ≡ 800) × (self.count < 4096) }
+        ensures grows { Grows 0 1 self result }
+        ensures follows { (s : List Open) (r : Reader) → r.cursor < 65535 → Shows r self (lists s nodes.old) → Shows (with_node at node r) result (lists s nodes.new) }
+    {
+        crate::nodes::insert_node(nodes, at, self.count, node);
+        Machine {
+            cursor: self.cursor.wrapping_add(1),
+            count: self.count + 1,
+            ..self
+        }
+    }
+
     // A node more, at the cursor.
     pub fn leaf(self, nodes: &mut [u8], mode: Mode, node: Node) -> Machine
         requires { (length nodes.old ≡ 800) × (self.count < 4096) }
         ensures grows { Grows 0 1 self result }
         ensures follows { (s : List Open) → FollowsWithin (leaf mode node) self (lists s nodes.old) result (lists s nodes.new) }
     {
-        crate::nodes::insert_node(nodes, self.cursor, self.count, node);
         Machine {
             mode,
             start: self.cursor,
-            cursor: self.cursor.wrapping_add(1),
-            count: self.count + 1,
-            ..self
+            ..self.with_node(nodes, self.cursor, node)
         }
     }
 
@@ -88,19 +103,8 @@ impl Machine {
         ensures grows { Grows 1 1 self result }
         ensures follows { FollowsWithin (opened_node mode code node) self (lists stack.old nodes.old) result (lists stack.new nodes.new) }
     {
-        let frame = Open {
-            code,
-            start: self.cursor,
-        };
-        frames::push(stack, self.height, frame);
-        crate::nodes::insert_node(nodes, self.cursor, self.count, node);
-        Machine {
-            mode,
-            height: self.height + 1,
-            cursor: self.cursor.wrapping_add(1),
-            count: self.count + 1,
-            ..self
-        }
+        self.opened(stack, mode, code)
+            .with_node(nodes, self.cursor, node)
     }
 
     // An operator between two operands: its node goes before all of what was read.
@@ -116,15 +120,13 @@ impl Machine {
             start: p.start,
         };
         frames::push(stack, p.height, frame);
-        let node = crate::nodes::bare(code);
-        crate::nodes::insert_node(nodes, p.start, self.count, node);
-        Machine {
+        let opened = Machine {
             mode,
             start: p.start,
             height: p.height + 1,
-            cursor: self.cursor.wrapping_add(1),
-            count: self.count + 1,
-        }
+            ..self
+        };
+        opened.with_node(nodes, p.start, bare(code))
     }
 
     // The frame on top is complete, and is taken off.

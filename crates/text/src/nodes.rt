@@ -1,5 +1,6 @@
 // The nodes, four bytes each, as long as they are at most 200: a longer program is refused for its length, and its nodes are only counted.
-// Contracts say what the list keeps of the nodes (`Keeps`, specs/Shown).
+// Contracts say what the list keeps of the nodes (`Keeps`, specs/Shown); that it has 800 bytes is program_of's requires, and so each contract's.
+// Widening casts are `as`, with which proofs compute.
 ghost use Rattle.std.specs.Prelude.{◌≡◌, List, length};
 ghost use Rattle.model.specs.declared.Node.{Node};
 ghost use Rattle.model.specs.Program.{node};

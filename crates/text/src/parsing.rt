@@ -5,6 +5,7 @@ ghost use Rattle.text.specs.Parsing.{Parses, Going};
 
 use crate::frames::NO_FRAME;
 use crate::machine::Machine;
+use scanner::Words;
 
 // So many nodes, which stand in the list as long as they are at most 200; or the place where no continuation fits.
 pub fn parse(text: &[u8], nodes: &mut [u8]) -> Result<usize, usize>
@@ -13,19 +14,14 @@ pub fn parse(text: &[u8], nodes: &mut [u8]) -> Result<usize, usize>
 {
     let mut stack = [NO_FRAME; 4096];
     let mut m = Machine::at_first();
-    let mut at: usize = 0;
-    let mut previous: u8 = 0;
-    // no `for`: where a word begins, and how it is read, hangs on the one before
-    while let Some(w) = scanner::next_word(text, at, previous) {
+    for w in Words::of(text) {
         m = crate::reader::step(&mut stack, nodes, m, w.token);
         if crate::reader::is_broken(m) {
             return Err(w.place);
         }
-        previous = w.token.code;
-        at = w.end;
     }
     if crate::reader::is_complete(&stack, m) {
-        return Ok(m.count as usize);
+        return Ok(usize::from(m.count));
     }
     Err(text.len())
 }

@@ -1,10 +1,9 @@
--- check_words: the first word outside the language is that from place `at` on. Assumes nothing.
-use Rattle.std.proofs.Common.{◌≡◌, ◌-◌, length, drop}
+-- check_words: the first word outside the language is that of the words which are left. Assumes nothing.
+use Rattle.std.proofs.Common.{◌≡◌, drop}
 use Rattle.model.specs.Text.{words_of, words_from, outside}
 use Rattle.scanner.proofs.check_words.Given as goal
 
 abbrev pub invariant-loop-next : goal.invariant-loop-next
-invariant-loop-next l = outside (words_of l.text) ≡ outside (words_from 0 l.previous l.at (drop l.at l.text))
-
-abbrev pub decreases-loop-next : goal.decreases-loop-next
-decreases-loop-next l = length l.text - l.at
+invariant-loop-next l =
+    let ws = l.next-iterator in
+    (ws.text.now ≡ l.text) × (outside (words_of l.text) ≡ outside (words_from 0 ws.previous ws.at (drop ws.at l.text)))

@@ -1,8 +1,11 @@
--- `words::word_at` meets its contract: a run, a sign of two characters, or one of one. Assumes nothing.
-use mathlib.Core.Path.{refl}
+-- `word_at` meets its contract: a run, a sign of two characters, or one of one. Assumes nothing.
+use mathlib.Core.Path.{◌≡◌, refl}
 use native.Mathlib.Omega.{arith}
-use Rattle.scanner.proofs.Words.{run-within, run-here, two_here, one-here}
+use Rattle.model.specs.Text.{sign}
+use Rattle.scanner.proofs.Runs.{sign-told}
+use Rattle.scanner.proofs.WordLaws.{run-within, run-here, two_here, one-here}
 use Rattle.scanner.proofs.word_at.Goals as goal
+use Rattle.scanner.proofs.word_at.Goals.{in-Some, in-None}
 
 pub slice_bounds-run_token-end : goal.slice_bounds-run_token-end
 slice_bounds-run_token-end c =
@@ -15,20 +18,16 @@ returns-then-place-end c =
     let args = run.args in
     run-here args.text.now args.place run.run_end-end.ensures args.previous run.if-place-end.true c.run_token-token.ensures
 
-pub returns-then-two-eq0 : goal.returns-then-two-eq0
-returns-then-two-eq0 c =
-    let two = c in
-    let byte = two in
-    let test = byte in
-    let args = test.args in
-    one-here args.text.now args.place test.run_end-end.ensures args.previous test.if-place-end.false refl
-    byte.byte_at.ensures two.two_code-two.ensures c.if-two-eq0.true c.one_code.ensures
-
 pub returns : goal.returns
 returns c =
-    let two = c in
-    let byte = two in
-    let test = byte in
-    let args = test.args in
-    two_here args.text.now args.place test.run_end-end.ensures args.previous test.if-place-end.false refl
-    byte.byte_at.ensures two.two_code-two.ensures c.if-two-eq0.false
+    let args = c.args in
+    elim c.match-two_code.branch [
+      | in-Some w ↦
+          let two = rw c.behind.ensures at w.in-Some.ensures in
+          let token : c.sign.result ≡ sign w.in-Some.code = rw w.code-is at c.sign.ensures in
+          rw (token, w.code-is) (two_here args.text.now args.place c.run_end-end.ensures args.previous c.if-place-end.false two.0 two.1)
+      | in-None w ↦
+          let none = rw c.behind.ensures at w.in-None.ensures in
+          let token = sign-told w.one_code.result (rw w.code-is at c.sign.ensures) w.one_code.ensures in
+          rw (token, w.code-is) (one-here args.text.now args.place c.run_end-end.ensures args.previous c.if-place-end.false none refl)
+    ]

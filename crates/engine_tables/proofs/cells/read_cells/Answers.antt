@@ -1,21 +1,12 @@
--- `read_cells` meets its contract: the cells below k are in the lists, and cell k begins at the cursor. Assumes nothing.
-use Rattle.std.proofs.Common.{◌≡◌, sym, ◌∙◌, ap, ℕ, arith}
-use native.Mathlib.Nat.{zero-add}
-use Rattle.model.specs.Circuit.{cell_at}
-use Rattle.model.specs.NetlistFile.{in_file, cells_at, cell_from}
-use Rattle.laws.specs.NetlistFile.CellBytes.{cell-of}
-use Rattle.netlist.proofs.Following.{follows}
-use Rattle.engine_laws.specs.Decoded.{decoded-more}
+-- `read_cells` meets its contract: the cells below k are in the list. Assumes nothing.
+use Rattle.std.proofs.Common.{◌≡◌, ap, ◌+◌, ◌∙◌, arith}
+use Rattle.model.specs.NetlistFile.{in_file, cells_at}
+use Rattle.engine_tables.proofs.Listed.{filled}
 use Rattle.engine_tables.proofs.cells.read_cells.Goals as goal
 
-pub loop-k-preserved : goal.loop-k-preserved
-loop-k-preserved c =
-    let args = c.args in
+pub returns : goal.returns
+returns c =
     let loop = c.loop-k in
-    let cells = cells_at in_file args.file.now 0 args.n in
-    let here : cell_at cells loop.k ≡ cell_from args.file.now (in_file loop.k) =
-    cell-of in_file args.file.now 0 args.n loop.k c.loop-k-test.true ∙ ap (λ (j : ℕ). cell_from args.file.now (in_file j)) (zero-add loop.k) in
-    let e : c.cell_from-c.result ≡ cell_at cells loop.k = c.cell_from-c.ensures ∙ ap (cell_from args.file.now) loop.invariant.0 ∙ sym here in (
-      follows loop.k loop.invariant.0 c.next_offset-at.ensures,
-      decoded-more cells loop.kind loop.delay loop.a loop.b loop.k c.cell_from-c.result (omega arith) (omega arith) (omega arith) (omega arith) e loop.invariant.1,
-    )
+    filled c.args.file.now 0 loop.cells
+    (λ j l. let z : 0 + j ≡ j = omega arith in rw z (loop.invariant j (omega (arith, loop.auto.cells, c.loop-k-test.false))))
+    ∙ ap (cells_at in_file c.args.file.now 0) loop.auto.cells

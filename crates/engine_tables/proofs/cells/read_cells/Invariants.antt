@@ -1,9 +1,8 @@
--- `read_cells` meets its contract: the cells below k are in the lists, and cell k begins at the cursor. Assumes nothing.
-use Rattle.std.proofs.Common.{◌≡◌}
-use Rattle.model.specs.NetlistFile.{in_file, cells_at}
-use Rattle.engine_laws.specs.Decoded.{Decoded}
+-- `read_cells` meets its contract: the cells below k are in the list. Assumes nothing.
+use Rattle.std.proofs.Common.{◌≡◌, ℕ, ◌<◌}
+use Rattle.model.specs.Circuit.{cell_at}
+use Rattle.model.specs.NetlistFile.{in_file, cell_from}
 use Rattle.engine_tables.proofs.cells.read_cells.Given as goal
 
 abbrev pub invariant-loop-k : goal.invariant-loop-k
-invariant-loop-k l =
-    (l.at ≡ in_file l.k) × Decoded (cells_at in_file l.file 0 l.n) l.kind l.delay l.a l.b l.k
+invariant-loop-k l = (j : ℕ) → j < l.k → cell_at l.cells j ≡ cell_from l.file (in_file j)

@@ -1,28 +1,28 @@
--- `frames::pop` meets its contract. The invariant: what is left to take off comes out as at the start. Assumes nothing.
-use Rattle.std.proofs.Common.{◌≡◌, ◌+◌, ◌-◌, ◌∙◌, arith}
-use Rattle.text.proofs.Stack.{pop-more, pop-stays, pop-empty, popped}
+-- `frames::pop` meets its contract: those on top that hold more tightly are taken off. Assumes nothing.
+use Rattle.std.proofs.Common.{◌≡◌, ◌-◌, take, get_or, refl, arith}
+use Rattle.std.specs.List.{suffix_len}
+use Rattle.text.specs.Shown.{tight, no_frame}
+use Rattle.text.proofs.Stack.{popped, pop-tops, tops-within}
 use Rattle.text.proofs.frames.pop.Goals as goal
 
-pub returns-then-hold_of-reach : goal.returns-then-hold_of-reach
-returns-then-hold_of-reach c =
+pub overflow_sub-kept : goal.overflow_sub-kept
+overflow_sub-kept c =
+    let args = c.args in
+    omega (arith, c.tighter.ensures, tops-within args.stack.now args.reach args.height c.requires)
+
+pub returns-then-kept-height : goal.returns-then-kept-height
+returns-then-kept-height c =
     let args = c.args in
     let stack = args.stack.now in
-    let loop = c.loop-i in
-    let e : loop.i - 1 + 1 ≡ loop.i = omega arith in
-    popped stack args.reach loop.p args.start args.height (loop.i - 1 + 1) (omega arith) (rw e loop.invariant)
-    (pop-stays stack args.reach loop.p (loop.i - 1) (omega (arith, c.hold_of.ensures)))
+    let k : c.tighter.result ≡ suffix_len (tight args.reach) (take args.height stack) = c.tighter.ensures in
+    let kept = args.height - c.tighter.result in
+    popped stack args.reach (get_or stack kept no_frame).start args.start args.height kept (omega arith)
+    (rw k (pop-tops stack args.reach args.height args.start _ c.requires (λ l. refl) (λ l. absurd (omega (arith, l, c.if-kept-height.true, k)))))
 
-pub loop-i-preserved : goal.loop-i-preserved
-loop-i-preserved c =
-    let args = c.args in
-    let loop = c.loop-i in
-    let e : loop.i - 1 + 1 ≡ loop.i = omega arith in
-    loop.invariant ∙ (rw e at (pop-more args.stack.now args.reach loop.p (loop.i - 1) (omega (arith, c.hold_of.ensures))))
-
-pub returns : goal.returns
-returns c =
+pub returns-else-kept-height : goal.returns-else-kept-height
+returns-else-kept-height c =
     let args = c.args in
     let stack = args.stack.now in
-    let loop = c.loop-i in
-    let e : loop.i ≡ 0 = omega arith in
-    popped stack args.reach loop.p args.start args.height 0 (omega arith) (rw e at loop.invariant) (pop-empty stack args.reach loop.p)
+    let k : c.tighter.result ≡ suffix_len (tight args.reach) (take args.height stack) = c.tighter.ensures in
+    popped stack args.reach args.start args.start args.height (args.height - c.tighter.result) (omega arith)
+    (rw k (pop-tops stack args.reach args.height args.start args.start c.requires (λ l. absurd (omega (arith, l, c.if-kept-height.false, k))) (λ l. refl)))

@@ -18,20 +18,20 @@ use Rattle.rules.proofs.statements.Interpreter.+statement.Goals.{run_at-After-ne
 
 -- A body: none, or the root of its number, with fewer procedures to call.
 
-pub body_at-returns-then-procedures-p : goal.body_at-returns-then-procedures-p
-body_at-returns-then-procedures-p t c =
-    stands-as _ _ _ _ _ (called-none _ _ c.requires.enough _ c.if-procedures-p.true) (run_ok _ _ _)
+pub body_at-returns-then-self-p : goal.body_at-returns-then-self-p
+body_at-returns-then-self-p t c =
+    stands-as _ _ _ _ _ (called-none _ _ c.requires.enough _ c.if-self-p.true) (run_ok _ _ _)
 
 pub body_at-run_at-requires : goal.body_at-run_at-requires
 body_at-run_at-requires t c =
     let pre = c.requires in
-    let less = c.if-procedures-p.false in
+    let less = c.if-self-p.false in
     (omega (arith, less, pre.fit.laid.short), body-ready _ _ _ _ pre less _ c.skip-body.ensures)
 
 pub body_at-returns : goal.body_at-returns
 body_at-returns t c =
     let pre = c.requires in
-    let is = called-body _ _ pre.fit.laid _ pre.enough _ c.if-procedures-p.false _ c.skip-body.ensures in
+    let is = called-body _ _ pre.fit.laid _ pre.enough _ c.if-self-p.false _ c.skip-body.ensures in
     stands-as _ _ _ _ _ is c.run_at.ensures
 
 -- A call: its delay, and then the body.

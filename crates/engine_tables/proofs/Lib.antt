@@ -1,0 +1,2 @@
+-- The laws behind the proofs of the functions.
+pub mod Listed

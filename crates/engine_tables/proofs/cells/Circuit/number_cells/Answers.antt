@@ -1,0 +1,72 @@
+-- `number_cells` meets its contract: the cells below k are numbered. Assumes nothing.
+use Rattle.std.proofs.Common.{List, sym, ◌∙◌, ℕ, ◌<◌, length, length-set, refl, arith}
+use Rattle.model.specs.declared.Cell.{Cell}
+use Rattle.model.specs.Circuit.{cell_at}
+use Rattle.engine_laws.specs.Decoded.{set_below, below_one, below_other, below-first, Rank, ranks-other, delays-none, delays-more, delays-other}
+use Rattle.engine_tables.proofs.cells.Circuit.number_cells.Goals as goal
+use Rattle.engine_tables.proofs.cells.Circuit.number_cells.Goals.{in-34+else-count-eq-DELAYS, in-40, in-42, in_default}
+
+abbrev kind_at : List Cell → ℕ → ℕ
+kind_at cells k = (cell_at cells k).kind
+
+abbrev delay_at : List Cell → ℕ → ℕ
+delay_at cells k = (cell_at cells k).delay
+
+pub loop-k-init : goal.loop-k-init
+loop-k-init c = (λ k l. absurd (omega arith), delays-none _ _, sym (below-first 40 (kind_at c.args.self.now.cells.now)), omega arith, omega arith, refl, refl)
+
+pub loop-k-preserved : goal.loop-k-preserved
+loop-k-preserved c =
+    let args = c.args in
+    let K = kind_at args.self.now.cells.now in
+    let D = delay_at args.self.now.cells.now in
+    let loop = c.loop-k in
+    let room : loop.k < length loop.rank = omega (arith, c.args.self.now.few, loop.invariant.5) in
+    elim c.match-c.branch [
+      | in-34+else-count-eq-DELAYS w ↦
+          let here = w.in-34.is in
+          rw (w.rank-is, w.delays-is, w.count-is, w.memories-is) (
+            set_below (Rank K D) loop.rank loop.k loop.count room loop.invariant.0
+                (λ e. loop.invariant.1.number, λ e f. absurd (omega (arith, e, here)), λ e f. absurd (omega (arith, e, here))),
+            delays-more K loop.k loop.delays loop.count here (omega (arith, loop.invariant.6)) loop.invariant.1,
+            loop.invariant.2 ∙ sym (below_other 40 K loop.k (λ e. omega (arith, e, here))),
+            omega arith,
+            omega arith,
+            length-set loop.rank loop.k _ ∙ loop.invariant.5,
+            length-set loop.delays loop.count loop.k ∙ loop.invariant.6,
+          )
+      | in-40 w ↦
+          let here = w.in-40.is in
+          rw (w.rank-is, w.delays-is, w.count-is, w.memories-is) (
+            set_below (Rank K D) loop.rank loop.k _ room loop.invariant.0
+                (λ e. absurd (omega (arith, e, here)), λ e f. omega (arith, f, loop.invariant.2), λ e f. absurd (omega (arith, e, here))),
+            delays-other K loop.k loop.delays loop.count (λ e. omega (arith, e, here)) loop.invariant.1,
+            omega (arith, loop.invariant.2, below_one 40 K loop.k here),
+            omega arith,
+            omega arith,
+            length-set loop.rank loop.k _ ∙ loop.invariant.5,
+            loop.invariant.6,
+          )
+      | in-42 w ↦
+          let here = w.in-42.is in
+          rw (w.rank-is, w.delays-is, w.count-is, w.memories-is) (
+            set_below (Rank K D) loop.rank loop.k _ room loop.invariant.0
+                (λ e. absurd (omega (arith, e, here)), λ e f. absurd (omega (arith, e, here)), λ e f. omega (arith, f)),
+            delays-other K loop.k loop.delays loop.count (λ e. omega (arith, e, here)) loop.invariant.1,
+            loop.invariant.2 ∙ sym (below_other 40 K loop.k (λ e. omega (arith, e, here))),
+            omega arith,
+            omega arith,
+            length-set loop.rank loop.k _ ∙ loop.invariant.5,
+            loop.invariant.6,
+          )
+      | in_default w ↦
+          rw (w.rank-is, w.delays-is, w.count-is, w.memories-is) (
+            ranks-other K D loop.rank loop.k (λ e. omega (arith, e)) (λ e. omega (arith, e)) (λ e. omega (arith, e)) loop.invariant.0,
+            delays-other K loop.k loop.delays loop.count (λ e. omega (arith, e)) loop.invariant.1,
+            loop.invariant.2 ∙ sym (below_other 40 K loop.k (λ e. omega (arith, e))),
+            omega arith,
+            omega arith,
+            loop.invariant.5,
+            loop.invariant.6,
+          )
+    ]

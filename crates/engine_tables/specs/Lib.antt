@@ -1,0 +1,2 @@
+-- Definitions that the contracts cite beside those of engine_laws.
+pub mod Of

@@ -1,14 +1,13 @@
 -- A program's netlist from its parts: what is known of an accepted program and its roots, what the two walks and the ors ask and leave, and how
 -- the parts make the whole. What the first walk puts in does not matter, but for its marks. Assumes nothing.
 use mathlib.Core.Path.{◌≡◌, refl, sym, ◌∙◌, ap, subst}
-use mathlib.Core.List.{List, [], ◌∷◌, ◌++◌, append_assoc}
+use mathlib.Core.List.{List, [], ◌++◌, append_assoc}
 use Prim.Native.Nat.{ℕ, ◌+◌, ◌-◌, ◌*◌, ◌/◌, ◌≤◌, ◌<◌}
 use native.Mathlib.Omega.{arith}
-use lib.ListN.{length, set, drop, length-append, length-drop}
-use lib.Seq.{sets}
+use lib.ListN.{length, set, take, drop, length-append, length-drop}
+use lib.Seq.{sets, length-sets}
 use Rattle.model.specs.declared.Cell.{Cell}
 use Rattle.model.specs.Program.{node_count, stmt_at, Program, program_of, roots}
-use Rattle.model.specs.Circuit.{cell}
 use Rattle.model.specs.NetlistFile.{cell_bytes, cells_at, in_list}
 use Rattle.model.specs.Numbering.{memory_wires, Source, data_sources, address_sources, wires_of, or_count_from, idle_start, root_delay_count, root_walk_count, root_walk_sources, calls_of, clocks_of, data_of, addresses_of}
 use Rattle.model.specs.Numbering.{clock_at, memory_at, arrays_at, walk_place, data_at, address_at, clock_wires, data_wires, address_wires, procedures, finish_of_root, head_cells, memories_of, arrays_of, netlist, finish}
@@ -31,11 +30,11 @@ use Rattle.compiler.specs.declared.whole.Clocks.{Clocks}
 use Rattle.compiler.specs.declared.whole.Finished.{Finished}
 use Rattle.compiler.specs.Writes.{write, both}
 use Rattle.compiler.specs.Walk.{finish_in}
-use Rattle.compiler.specs.Ors.{sources_from, OrsReady, Ored}
-use Rattle.compiler.specs.Whole.{Given, Fitting, callers_of, Told, RootReady, RootDone, root_assignments, behind_arrays, RootsReady, RootsDone, Put, Clocked, Walked, Made, Closing}
+use Rattle.compiler.specs.Ors.{sources_from, sources_in, OrsReady, Ored}
+use Rattle.compiler.specs.Whole.{Given, Fitting, callers_in, Told, Calls, RootReady, RootDone, root_assignments, root_marks, behind_arrays, RootsReady, RootsDone, Put, Clocked, Walked, Made, Closing}
 use Rattle.compiler.proofs.Writes.{write-append, write-before, write-length}
 use Rattle.compiler.proofs.Sizes.{few, few-roots, one-root}
-use Rattle.compiler.proofs.Marks.{clock-marks, call-marks, data-marks, index-marks}
+use Rattle.compiler.proofs.Marks.{sources-taken, clock-marks, call-marks, data-marks, index-marks}
 use Rattle.compiler.proofs.Joining.{counts-alike, ored-alike}
 use Rattle.compiler.proofs.Roots.{Rooting, room-delays, room-walk, room-marks, earlier_more, rooting-more, rooting-end}
 
@@ -51,9 +50,15 @@ abbrev pub address_joint : Joint
 address_joint = record { kind = 7; none = 2; mark = 3; first = 16 }
 
 -- no marks tell no calls
-pub no-callers : (ms : List ℕ) → Told [] ms 0
-unfolding sources_from wires_of
-no-callers ms = record { few = omega arith; calls = λ p. refl }
+pub no-callers : Calls [] []
+unfolding sources_in wires_of
+no-callers p = refl
+
+-- the marks of the calls alone tell them
+pub calls-told : {cs : List Source} {ms : List ℕ} {n : ℕ} → Told cs ms n → length ms ≡ 800 → Calls cs (take (4 * n) ms)
+calls-told {cs} {ms} {n} T l p =
+    let h : 4 * n ≤ length ms = omega (arith, T.few) in
+    ap (wires_of (20 + p)) (sources-taken 1 (omega arith) n ms h) ∙ T.calls p
 
 -- An accepted program ------------------------------------------------------------------------------------------------------------------
 
@@ -101,17 +106,16 @@ module _ {pulse k : ℕ} {s ends : List ℕ} {n : ℕ} (G : Given pulse k s ends
 
   -- Roots ------------------------------------------------------------------------------------------------------------------------------
 
-  module _ {ms : List ℕ} {count M : ℕ} {cs : List Source} (T : Told cs ms count) (apart : 3 + root_delay_count (roots S) ≤ behind_arrays M)
+  module _ (ms : List ℕ) {M : ℕ} {cs : List Source} (T : Calls cs ms) (apart : 3 + root_delay_count (roots S) ≤ behind_arrays M)
       {before marked cells marks finishes : List ℕ} {p : Place} {r i : ℕ} (C : Rooting S cs M before marked cells marks finishes p r) (l : r ≤ k)
       (e : i ≡ skips ends (node_count s) r 0) where
     inside : r < length (roots S)
     inside = omega (arith, counted)
 
-    pub root-ready : behind_arrays M + root_walk_count cs 0 (roots S) ≤ 627 → RootReady M (callers_of ms count r) count (stmt_at s i) p n
+    pub root-ready : behind_arrays M + root_walk_count cs 0 (roots S) ≤ 627 → RootReady M (callers_in ms r) (stmt_at s i) p n
     root-ready room =
-        rw (T.calls r, root-here r i l e)
+        rw (T r, root-here r i l e)
         (record {
-          few = T.few;
           apart = omega (arith, room-delays S cs M C inside, C.onward);
           walk =
               record {
@@ -127,12 +131,12 @@ module _ {pulse k : ℕ} {s ends : List ℕ} {n : ℕ} (G : Given pulse k s ends
         })
 
     pub root-further : {after remarked : List ℕ} {q : Place} {idle : ℕ} → idle ≡ idle_start k r → length after ≡ length cells
-        → RootDone pulse M (finish_in finishes) idle (callers_of ms count r) (stmt_at s i) p cells after marks remarked q
+        → RootDone pulse M (finish_in finishes) idle (callers_in ms r) (stmt_at s i) p cells after marks remarked q
         → Rooting S cs M before marked after remarked (set finishes r q.wire) q (r + 1)
     unfolding program_of
     root-further z same u =
         rooting-more S cs M C inside (omega (arith, few-procedures)) apart (facts.earlier r inside)
-        (rw (z ∙ ap (λ (j : ℕ). idle_start j r) (sym bodies), T.calls r, root-here r i l e) at u) same
+        (rw (z ∙ ap (λ (j : ℕ). idle_start j r) (sym bodies), T r, root-here r i l e) at u) same
 
   pub roots-end : {cs : List Source} {M : ℕ} {before marked cells marks finishes : List ℕ} {p : Place} {r : ℕ}
       → Rooting S cs M before marked cells marks finishes p r → r ≡ k + 1 → RootsDone S cs M before cells marked marks p
@@ -141,19 +145,19 @@ module _ {pulse k : ℕ} {s ends : List ℕ} {n : ℕ} (G : Given pulse k s ends
   -- Parts ------------------------------------------------------------------------------------------------------------------------------
 
   -- the first walk
-  pub first-ready : (ms : List ℕ) → RootsReady pulse k s ends ms 0 179 n
-  first-ready ms =
+  pub first-ready : RootsReady pulse k s ends [] 179 n
+  first-ready =
       record {
         given = G;
         calls = [];
-        told = no-callers ms;
+        told = no-callers;
         apart = omega (arith, few-roots 0 (roots S), facts.nodes);
         room = omega (arith, few-roots 0 (roots S), facts.nodes);
       }
 
   -- the second walk
-  pub walk-ready : {M : ℕ} → M ≡ memory_at S → {ms : List ℕ} {count : ℕ} → Told (calls_of S) ms count → RootsReady pulse k s ends ms count M n
-  walk-ready m T =
+  pub walk-ready : {M : ℕ} → M ≡ memory_at S → (ms : List ℕ) → Calls (calls_of S) ms → RootsReady pulse k s ends ms M n
+  walk-ready m ms T =
       record { given = G; calls = calls_of S; told = T; apart = omega (arith, m); room = omega (arith, m, net-length S, (fits S facts.nodes).1) }
 
   -- what a walk leaves, and what is there before the memories
@@ -198,26 +202,35 @@ module _ {S : Program} {cs : List Source} {M : ℕ} {before after ms marked : Li
         calls = λ q. rw (marked-count, u.marks) (call-marks cs (roots S) 3 (behind_arrays M) p.fitting.formed ms long q);
       }
 
-  marked-clocks : (y : ℕ) → 0 ≤ y → y < 0 + 20 → wires_of y (sources_from 1 marked 0 (e.mark / 4)) ≡ wires_of y (clocks_of S)
-  marked-clocks y g h = rw (marked-count, u.marks) (clock-marks cs (roots S) 3 (behind_arrays M) p.fitting.formed ms long y h)
+  -- the marks that have been put in, which lie in their array
+  pub own-marks : 4 * (e.mark / 4) ≤ length marked
+  own-marks = rw u.marks (omega (arith, marked-count, long, length-sets ms 0 (root_marks cs 0 (roots S) 3 (behind_arrays M))))
+
+  abbrev own : List ℕ
+  own = take (4 * (e.mark / 4)) marked
+
+  own-told : (f y : ℕ) → f ≤ 3 → wires_of y (sources_in f own) ≡ wires_of y (sources_from f marked 0 (e.mark / 4))
+  own-told f y h = ap (wires_of y) (sources-taken f h (e.mark / 4) marked own-marks)
+
+  marked-clocks : (y : ℕ) → 0 ≤ y → y < 0 + 20 → wires_of y (sources_in 1 own) ≡ wires_of y (clocks_of S)
+  marked-clocks y g h = own-told 1 y (omega arith) ∙ rw (marked-count, u.marks) (clock-marks cs (roots S) 3 (behind_arrays M) p.fitting.formed ms long y h)
 
   marked-datas : (y : ℕ) → 0 ≤ y → y < 0 + 20
-      → wires_of y (sources_from 2 marked 0 (e.mark / 4)) ≡ wires_of y (root_walk_sources data_sources cs 0 (roots S) (behind_arrays M))
-  marked-datas y g h = rw (marked-count, u.marks) (data-marks cs (roots S) 3 (behind_arrays M) p.fitting.formed ms long y h)
+      → wires_of y (sources_in 2 own) ≡ wires_of y (root_walk_sources data_sources cs 0 (roots S) (behind_arrays M))
+  marked-datas y g h = own-told 2 y (omega arith) ∙ rw (marked-count, u.marks) (data-marks cs (roots S) 3 (behind_arrays M) p.fitting.formed ms long y h)
 
   marked-indices : (y : ℕ) → 16 ≤ y → y < 16 + 4
-      → wires_of y (sources_from 3 marked 0 (e.mark / 4)) ≡ wires_of y (root_walk_sources address_sources cs 0 (roots S) (behind_arrays M))
-  marked-indices y g h = rw (marked-count, u.marks) (index-marks cs (roots S) 3 (behind_arrays M) p.fitting.formed ms long y h g)
+      → wires_of y (sources_in 3 own) ≡ wires_of y (root_walk_sources address_sources cs 0 (roots S) (behind_arrays M))
+  marked-indices y g h = own-told 3 y (omega arith) ∙ rw (marked-count, u.marks) (index-marks cs (roots S) 3 (behind_arrays M) p.fitting.formed ms long y h g)
 
   -- ors of these
   ready : (j : Joint) (ps : List Source) {c n : ℕ} → n ≡ 3762 → j.mark ≤ 3 → j.first ≤ 20
-      → ((y : ℕ) → j.first ≤ y → y < j.first + (20 - j.first) → wires_of y (sources_from j.mark marked 0 (e.mark / 4)) ≡ wires_of y ps)
+      → ((y : ℕ) → j.first ≤ y → y < j.first + (20 - j.first) → wires_of y (sources_in j.mark (take (4 * (e.mark / 4)) marked)) ≡ wires_of y ps)
       → c + or_count_from ps j.first (20 - j.first) ≤ 627
-      → OrsReady j (e.mark / 4) c (or_count_from (sources_from j.mark marked 0 (e.mark / 4)) j.first (20 - j.first)) n
+      → OrsReady j c (or_count_from (sources_in j.mark (take (4 * (e.mark / 4)) marked)) j.first (20 - j.first)) n
   ready j ps size m f alike room =
-      rw (counts-alike (sources_from j.mark marked 0 (e.mark / 4)) ps j.first (20 - j.first) alike)
+      rw (counts-alike (sources_in j.mark (take (4 * (e.mark / 4)) marked)) ps j.first (20 - j.first) alike)
       (record {
-        few = omega (arith, marked-count, few-marks);
         mark = m;
         first = f;
         room = omega (arith, room, size);
@@ -226,11 +239,11 @@ module _ {S : Program} {cs : List Source} {M : ℕ} {before after ms marked : Li
 
 -- the clock ors, by the first walk
 module _ {S : Program} {before first ms marked : List ℕ} {e : Place} (p : Put S [] 179 before first ms marked e) where
-  pub clocks-ready : OrsReady clock_joint (e.mark / 4) e.delay (or_count_from (sources_from 1 marked 0 (e.mark / 4)) 0 20) (length first)
+  pub clocks-ready : OrsReady clock_joint e.delay (or_count_from (sources_in 1 (take (4 * (e.mark / 4)) marked)) 0 20) (length first)
   clocks-ready =
       ready p clock_joint (clocks_of S) p.size (omega arith) (omega arith) (marked-clocks p) (omega (arith, p.done.delay, net-length S, most p.fitting))
 
-  pub clocked : {after : List ℕ} {r : Ors} → Ored clock_joint e.delay (sources_from 1 marked 0 (e.mark / 4)) first after r
+  pub clocked : {after : List ℕ} {r : Ors} → Ored clock_joint e.delay (sources_in 1 (take (4 * (e.mark / 4)) marked)) first after r
       → Clocked S marked after (record { wires = r.wires; memory = r.next; count = e.mark / 4 })
   clocked v₀ =
       let v = rw p.done.delay at (ored-alike _ _ (marked-clocks p) v₀) in
@@ -238,19 +251,19 @@ module _ {S : Program} {before first ms marked : List ℕ} {e : Place} (p : Put 
 
 -- the ors of words, by the second
 module _ {S : Program} {before mid ms marked : List ℕ} {e : Place} (p : Put S (calls_of S) (memory_at S) before mid ms marked e) where
-  pub datas-ready : OrsReady data_joint (e.mark / 4) e.cell (or_count_from (sources_from 2 marked 0 (e.mark / 4)) 0 20) (length mid)
+  pub datas-ready : OrsReady data_joint e.cell (or_count_from (sources_in 2 (take (4 * (e.mark / 4)) marked)) 0 20) (length mid)
   datas-ready =
       ready p data_joint (data_of S) p.size (omega arith) (omega arith) (marked-datas p) (omega (arith, p.done.cell, net-length S, most p.fitting))
 
-  module _ {mid₂ : List ℕ} {q : Ors} (v₀ : Ored data_joint e.cell (sources_from 2 marked 0 (e.mark / 4)) mid mid₂ q) where
+  module _ {mid₂ : List ℕ} {q : Ors} (v₀ : Ored data_joint e.cell (sources_in 2 (take (4 * (e.mark / 4)) marked)) mid mid₂ q) where
     v : Ored data_joint (data_at S) (data_of S) mid mid₂ q
     v = rw p.done.cell at (ored-alike _ _ (marked-datas p) v₀)
 
-    pub addresses-ready : OrsReady address_joint (e.mark / 4) q.next (or_count_from (sources_from 3 marked 0 (e.mark / 4)) 16 4) (length mid)
+    pub addresses-ready : OrsReady address_joint q.next (or_count_from (sources_in 3 (take (4 * (e.mark / 4)) marked)) 16 4) (length mid)
     addresses-ready =
         ready p address_joint (addresses_of S) p.size (omega arith) (omega arith) (marked-indices p) (omega (arith, v.next, net-length S, most p.fitting))
 
-    pub walked : {after : List ℕ} {r : Ors} → Ored address_joint q.next (sources_from 3 marked 0 (e.mark / 4)) mid₂ after r
+    pub walked : {after : List ℕ} {r : Ors} → Ored address_joint q.next (sources_in 3 (take (4 * (e.mark / 4)) marked)) mid₂ after r
         → Walked S before after (record { wires = q.wires; addresses = r.wires; count = r.next; finish = e.wire; ors = e.cell })
     unfolding finish finish_of_root
     walked w₀ =
@@ -331,20 +344,15 @@ walked-length {S} {b} W =
     ap length W.cells ∙ write-length (address_at S) (address_ors S) _ ∙ write-length (data_at S) (data_ors S) _ ∙ write-length (walk_place S) (walk_cells S) _
     ∙ write-length 3 (delay_cells S) b
 
-pub made : {S : Program} {b₂ b₃ b₄ b₅ b₆ b₇ : List ℕ} {r : Clocks} {w : Finished} → Closing S b₂ r w
+pub made : {S : Program} {b₂ b₃ b₄ b₅ : List ℕ} {r : Clocks} {w : Finished} → Closing S b₂ r w
     → b₃ ≡ write r.memory (memories_of r.wires w.wires 0 16) b₂
     → b₄ ≡ write (r.memory + 16) (arrays_of r.wires w.wires (drop 16 w.addresses) 0 4) b₃
-    → b₅ ≡ write 0 (cell 32 0 0 0 ∷ []) b₄
-    → b₆ ≡ write 1 (cell 33 0 0 0 ∷ []) b₅
-    → b₇ ≡ write 2 (cell 1 0 0 0 ∷ []) b₆
-    → Made S b₇ (record { count = w.count; finish = w.finish; ors = w.ors })
-made {S} {b₄ = b₄} C e₃ e₄ e₅ e₆ e₇ =
+    → b₅ ≡ write 0 head_cells b₄
+    → Made S b₅ (record { count = w.count; finish = w.finish; ors = w.ors })
+made {S} C e₃ e₄ e₅ =
     let K = C.clocks in
     let W = C.walk in
-    let head : write 2 (cell 1 0 0 0 ∷ []) (write 1 (cell 33 0 0 0 ∷ []) (write 0 (cell 32 0 0 0 ∷ []) b₄)) ≡ write 0 head_cells b₄ =
-    ap (write 2 (cell 1 0 0 0 ∷ [])) (write-append 0 1 (cell 32 0 0 0 ∷ []) (cell 33 0 0 0 ∷ []) b₄ refl)
-    ∙ write-append 0 2 (cell 32 0 0 0 ∷ (cell 33 0 0 0 ∷ [])) (cell 1 0 0 0 ∷ []) b₄ refl in
-    let all = rw (e₆, e₅, head, e₄, e₃, K.memory, K.wires, W.wires, W.addresses, W.cells, K.cells, assembled S K.first) at e₇ in
+    let all = rw (e₄, e₃, K.memory, K.wires, W.wires, W.addresses, W.cells, K.cells, assembled S K.first) at e₅ in
     let long : length K.first ≡ 3762 =
     sym (write-length (clock_at S) (clock_ors S) K.first) ∙ sym (ap length K.cells) ∙ sym (walked-length W) ∙ C.size in
     record {

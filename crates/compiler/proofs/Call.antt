@@ -1,46 +1,36 @@
 -- The call that compiles, outcome by outcome: the answer, and the lent list afterwards. Assumes nothing.
-use Rattle.model.specs.Refusals.{Accepted}
-use Rattle.std.specs.Prelude.{Err}
+use Rattle.model.specs.Refusals.{Accepted, Done}
+use Rattle.std.specs.Prelude.{Result, Ok, Err, IsOk}
 use mathlib.Core.List.{List}
-use mathlib.Core.Path.{◌≡◌, refl, sym, ◌∙◌}
-use Prim.Native.Nat.{ℕ, ◌*◌, ◌≤◌}
+use mathlib.Core.Path.{◌≡◌, refl, sym, ◌∙◌, ap}
+use Prim.Native.Nat.{ℕ, ◌≤◌}
 use native.Mathlib.Omega.{arith}
 use lib.ListN.{length}
-use lib.Seq.{sets}
+use borrow.Author.Tests.{le-ltb}
 use Rattle.model.specs.declared.Refusal.{Refusal}
+use Rattle.model.specs.declared.Written.{Written}
 use Rattle.model.specs.declared.Options.{Options}
 use Rattle.model.specs.ProgramChecks.{program_with}
-use Rattle.model.specs.Numbering.{netlist, finish}
-use Rattle.model.specs.NetlistFile.{cells_at, in_list, file_of, blocks_for}
+use Rattle.model.specs.Numbering.{finish}
+use Rattle.model.specs.NetlistFile.{cells_at, in_list}
 use Rattle.model.specs.Calls.{overwrite, short, writing, check_call, compiled_file, compile_checks, compile_call}
-use Rattle.laws.specs.Refusals.Laws.{first_one, first-take, first-drop}
+use Rattle.laws.specs.Refusals.Laws.{not-refused, first_one, first-take, first-drop}
 use Rattle.laws.specs.Numbering.Count.{fits}
 use Rattle.laws.specs.Program.Size.{few-nodes}
 use Rattle.netlist.specs.declared.cells.Layout.TheVariants.{InList}
 use Rattle.netlist.specs.Offsets.{Room}
 use Rattle.netlist.specs.Blocks.{written_file}
-use Rattle.word.proofs.Puts.{overwrite-sets}
-use Rattle.laws.specs.NetlistFile.Files.{file-length}
 use Rattle.netlist.proofs.Calls.{Tells}
 use Rattle.program.specs.declared.Scanned.{Scanned}
 use Rattle.model.specs.Program.{time_in}
 use Rattle.program.specs.Shape.{AllShaped, scanned-laid}
 use Rattle.compiler.specs.declared.whole.Netlist.{Netlist}
-use Rattle.compiler.specs.Whole.{Given, Made}
+use Rattle.compiler.specs.Whole.{Given, Made, Listed}
 
 pub scanned : (options : Options) {s : List ℕ} {r : Scanned} → check_call options s ≡ Accepted → AllShaped (time_in options.times) s r → Given options.pulse options.procedures s r.ends 3762
 scanned options {s} {r} e S = record { options = options; pulse = refl; count = refl; accepted = e; laid = scanned-laid options s r e S; size = refl }
 
 module _ (options : Options) (s : List ℕ) {cells : List ℕ} {made : Netlist} (m : Made (program_with options s) cells made) where
-  pub file-size : length (compiled_file options s) ≡ 512 * blocks_for made.count
-  file-size = rw m.count (file-length options.pulse (netlist (program_with options s)) (finish (program_with options s)))
-
-  -- the file as it is put in
-  pub file-put : (lent : List ℕ) {after : List ℕ} → 512 * blocks_for made.count ≤ length lent
-      → after ≡ sets lent 0 (file_of options.pulse (cells_at in_list cells 0 made.count) made.finish) → after ≡ overwrite (compiled_file options s) lent
-  file-put lent h q =
-      rw (m.cells, m.finish) at q ∙ sym (overwrite-sets (compiled_file options s) lent (omega (arith, file-size)))
-
   module _ (e : check_call options s ≡ Accepted) where
     pub list-room : length cells ≡ 3762 → Room InList cells made.count
     list-room l =
@@ -58,3 +48,25 @@ pub compile-refused : (options : Options) (s lent : List ℕ) {r : Refusal} → 
     → Tells (Err r) lent (compile_call options s lent)
 unfolding compile_call writing check_call
 compile-refused options s lent e = rw (first-take 2 (compile_checks options s lent) e) (refl, refl)
+
+-- what is listed of an accepted program
+module _ (options : Options) (s cells : List ℕ) (e : check_call options s ≡ Accepted) where
+  pub listed-ok : (r : Result Netlist Refusal) → Listed options s cells r → IsOk r
+  listed-ok (Ok x) l = refl
+  listed-ok (Err q) l = not-refused (sym l ∙ e)
+
+  pub listed-made : {x : Netlist} (r : Result Netlist Refusal) → r ≡ Ok x → Listed options s cells r → Made (program_with options s) cells x
+  listed-made r q l = (rw q at l).1
+
+-- the call of an accepted program, with a buffer that is long enough
+pub compile-accepted : (options : Options) (s lent : List ℕ) → check_call options s ≡ Accepted → length (compiled_file options s) ≤ length lent
+    → Tells (Done (length (compiled_file options s)) (finish (program_with options s))) (overwrite (compiled_file options s) lent) (compile_call options s lent)
+unfolding compile_call check_call writing
+compile-accepted options s lent e h = rw (first-drop 2 (compile_checks options s lent) e, le-ltb _ _ h) (refl, refl)
+
+-- what is written is told
+pub written-ok : {n f : ℕ} {r : Result Written Refusal} → r ≡ Done n f → IsOk r
+written-ok e = rw e refl
+
+pub written-count : {n f : ℕ} {x : Written} {r : Result Written Refusal} → r ≡ Done n f → r ≡ Ok x → x.count ≡ n
+written-count {n} {f} {x} e o = let q : x ≡ record { count = n; finish = f } = cc in ap (λ (w : Written). w.count) q

@@ -7,13 +7,10 @@ use native.Mathlib.Numerals.{add-one}
 use lib.ListN.{length, get_or, set, take, drop, length-set, drop_of_length-le}
 use lib.Seq.{drop_at, drop-cons, get_or-take, take_at, take-take, take-suc-set, length-take-le}
 use Rattle.model.specs.Program.{Expr, Code, seq, par, ite, while, repeat, loop, exit}
-use Rattle.model.specs.Circuit.{cell}
-use Rattle.model.specs.Numbering.{Wires, or_chain, or_chain_out, ors, ors_out, or_count, exit_count, exit_wires}
+use Rattle.model.specs.Numbering.{Wires, exit_count, exit_wires}
 use Rattle.compiler.specs.declared.walk.Word.{Word}
 use Rattle.compiler.specs.declared.walk.Place.{Place}
-use Rattle.compiler.specs.Writes.{write}
-use Rattle.compiler.specs.Walk.{place, Switched, Owned, Done, Opened, waiting, ExitsReady, ExitsJoined}
-use Rattle.compiler.proofs.Writes.{write-none, write-append, write-length}
+use Rattle.compiler.specs.Walk.{place, Switched, Owned, Done, Opened, waiting, ExitsReady}
 use Rattle.compiler.proofs.Growth.{left}
 
 -- What waits behind a statement --------------------------------------------------------------------------------------------------------
@@ -95,54 +92,14 @@ exit-opened {p} {o} h =
 
 -- Joining what waits -------------------------------------------------------------------------------------------------------------------
 
--- what is still to be done comes out as at the start
-pub record Exiting (os : List ℕ) (i j n : ℕ) (before cells : List ℕ) (acc next k : ℕ) : Type 0 where
-  pub cells_are : write next (or_chain 35 acc next (waiting os k j)) cells ≡ write n (ors 35 n (waiting os i j)) before
-  pub wire : or_chain_out acc next (waiting os k j) ≡ ors_out 1 n (waiting os i j)
-  pub cell : next + length (waiting os k j) ≡ n + or_count (waiting os i j)
-  pub same : length cells ≡ length before
-
 module _ {os : List ℕ} {i j n size : ℕ} (r : ExitsReady os i j n size) where
   top : length (take j os) ≡ j
   top = length-take-le j os (omega (arith, r.most, r.long))
 
-  more : (k : ℕ) → k < j → waiting os k j ≡ get_or os k 0 ∷ waiting os (k + 1) j
-  more k h =
+  pub waiting-more : (k : ℕ) → k < j → waiting os k j ≡ get_or os k 0 ∷ waiting os (k + 1) j
+  waiting-more k h =
       drop-cons (take j os) k 0 (omega (arith, top))
       ∙ rw (get_or-take j os k 0 h, add-one k) refl
 
-  none : (k : ℕ) → j ≤ k → waiting os k j ≡ []
-  none k h = drop_of_length-le (take j os) {i = k} (omega (arith, top))
-
-  module _ {before : List ℕ} where
-    pub exits-none : j ≤ i → ExitsJoined n (waiting os i j) before before (record { wire = 1; cell = n })
-    unfolding ors ors_out or_count
-    exits-none h = rw (none i h) (record { cells = sym (write-none n before); wire = refl; cell = omega arith })
-
-    pub exits-start : i < j → Exiting os i j n before before (get_or os i 0) n (i + 1)
-    unfolding ors ors_out or_count
-    exits-start h = let e = more i h in record { cells_are = rw e refl; wire = rw e refl; cell = rw e refl; same = refl }
-
-    module _ {cells : List ℕ} {acc next k : ℕ} (C : Exiting os i j n before cells acc next k) where
-      pub exits-room : k < j → next + 1 ≤ n + or_count (waiting os i j)
-      exits-room h = let q = rw (more k h) at C.cell in omega (arith, q)
-
-      pub exits-more : {after : List ℕ} → k < j → after ≡ write next (cell 35 0 acc (get_or os k 0) ∷ []) cells
-          → Exiting os i j n before after next (next + 1) (k + 1)
-      unfolding or_chain or_chain_out
-      exits-more h w =
-          let q = more k h in
-          let y = cell 35 0 acc (get_or os k 0) in
-          let Y = or_chain 35 next (next + 1) (waiting os (k + 1) j) in
-          record {
-            cells_are = ap (write (next + 1) Y) w ∙ write-append next (next + 1) (y ∷ []) Y cells refl ∙ (rw q at C.cells_are);
-            wire = rw q at C.wire;
-            cell = let z = rw q at C.cell in omega (arith, z);
-            same = ap length w ∙ write-length next (y ∷ []) cells ∙ C.same;
-          }
-
-      pub exits-end : j ≤ k → ExitsJoined n (waiting os i j) before cells (record { wire = acc; cell = next })
-      unfolding or_chain or_chain_out
-      exits-end h =
-          let e = none k h in
-          record { cells = sym (write-none next cells) ∙ (rw e at C.cells_are); wire = rw e at C.wire; cell = omega (arith, rw e at C.cell) }
+  pub waiting-none : (k : ℕ) → j ≤ k → waiting os k j ≡ []
+  waiting-none k h = drop_of_length-le (take j os) {i = k} (omega (arith, top))

@@ -1,4 +1,5 @@
 -- What the walk of an expression asks of its parts, and what it leaves, kind by kind; a condition's switches, and an if's own delay. Assumes nothing.
+use mathlib.Core.Logic.{◌⊎◌, inl, inr}
 use mathlib.Core.Path.{◌≡◌, refl, sym, ◌∙◌, ap}
 use mathlib.Core.List.{List, [], ◌∷◌, ◌++◌}
 use Prim.Native.Nat.{ℕ, zero, suc, ◌+◌, ◌*◌, ◌<◌, ◌≤◌}
@@ -8,6 +9,7 @@ use Rattle.model.specs.Program.{Expr, const, var, compl, op, elem, array_var}
 use Rattle.model.specs.Circuit.{cell}
 use Rattle.model.specs.Numbering.{Wires, expr_count, expr_wire, expr_cells, if_delay_count, if_delay_cells, if_pulse}
 use Rattle.laws.specs.Numbering.Lengths.{e-len}
+use Rattle.laws.specs.Program.Fit.{BasicExpr}
 use Rattle.compiler.specs.declared.walk.Word.{Word}
 use Rattle.compiler.specs.Writes.{write}
 use Rattle.compiler.specs.Walk.{word, ExprReady, ExprDone, Switched, Owned}
@@ -79,24 +81,36 @@ module _ {s k : ℕ} {before : List ℕ} where
   own-some zero n w = absurd (n refl)
   own-some (suc δ) n w = record { cells = w; wire = refl; cell = refl }
 
-module _ {M c n : ℕ} where
+module _ {c n : ℕ} where
   -- there is room for an expression's cells, of which k is one
-  pub last_fits : {E : Expr} {k : ℕ} → ExprReady M E c n → k < c + expr_count E → (k < 65535) × (6 * k + 6 ≤ n)
+  pub last_fits : {E : Expr} {k : ℕ} → ExprReady E c n → k < c + expr_count E → (k < 65535) × (6 * k + 6 ≤ n)
   last_fits r h = (omega (arith, h, r.room, r.small), omega (arith, h, r.room))
 
-  pub compl-ready : {E : Expr} → ExprReady M (compl E) c n → ExprReady M E c n
+  pub compl-ready : {E : Expr} → ExprReady (compl E) c n → ExprReady E c n
   unfolding expr_count
-  compl-ready r = record { formed = r.formed; memory = r.memory; room = omega (arith, r.room); small = r.small }
+  compl-ready r = record { formed = r.formed; room = omega (arith, r.room); small = r.small }
 
-  pub elem-ready : {k : ℕ} {E : Expr} → ExprReady M (elem k E) c n → ExprReady M E c n
+  pub elem-ready : {k : ℕ} {E : Expr} → ExprReady (elem k E) c n → ExprReady E c n
   unfolding expr_count
-  elem-ready r = record { formed = r.formed.1; memory = r.memory; room = omega (arith, r.room); small = r.small }
+  elem-ready r = record { formed = r.formed.1; room = omega (arith, r.room); small = r.small }
 
-  module _ {k : ℕ} {E F : Expr} (r : ExprReady M (op k E F) c n) where
-    pub op-first : ExprReady M E c n
+  module _ {k : ℕ} {E F : Expr} (r : ExprReady (op k E F) c n) where
+    pub op-first : ExprReady E c n
     unfolding expr_count
-    op-first = record { formed = r.formed.2; memory = r.memory; room = omega (arith, r.room); small = r.small }
+    op-first = record { formed = r.formed.2; room = omega (arith, r.room); small = r.small }
 
-    pub op-second : ExprReady M F (c + expr_count E) n
+    pub op-second : ExprReady F (c + expr_count E) n
     unfolding expr_count
-    op-second = record { formed = r.formed.3; memory = r.memory; room = omega (arith, r.room); small = r.small }
+    op-second = record { formed = r.formed.3; room = omega (arith, r.room); small = r.small }
+
+-- the parts of an expression have arrays where it has, or no elements where it has none
+module _ {A : Type 0} {X : Expr} (b : A ⊎ BasicExpr X) where
+  pub elem-words : {k : ℕ} {E : Expr} → X ≡ elem k E → A
+  elem-words e = elim (rw e at b) [ inl a ↦ a | inr z ↦ absurd z ]
+
+  module _ {k : ℕ} {E F : Expr} (e : X ≡ op k E F) where
+    pub first-words : A ⊎ BasicExpr E
+    first-words = elim (rw e at b) [ inl a ↦ inl a | inr z ↦ inr z.0 ]
+
+    pub second-words : A ⊎ BasicExpr F
+    second-words = elim (rw e at b) [ inl a ↦ inl a | inr z ↦ inr z.1 ]

@@ -4,8 +4,7 @@ use mathlib.Core.Path.{◌≡◌, refl, sym, ◌∙◌, ap}
 use mathlib.Core.List.{List, [], ◌∷◌, ◌++◌, append_assoc}
 use Prim.Native.Nat.{ℕ, ◌+◌, ◌*◌, ◌≤◌}
 use native.Mathlib.Omega.{arith}
-use native.Mathlib.Numerals.{towards_suc}
-use lib.ListN.{length, set, take, drop, length-append}
+use lib.ListN.{length, take, drop, length-append}
 use lib.Seq.{sets, sets-eq, drop-drop}
 use borrow.Rule.Slice.PartMut.{put_mid}
 use Rattle.model.specs.declared.Cell.{Cell}
@@ -50,10 +49,6 @@ marks-length (repeat δ e P) d c = marks-length P (d + 1) (past_switches e c + 1
 marks-length (loop δ P) d c = marks-length P (d + 1) (c + 1)
 marks-length exit d c = refl
 marks-length (call δ p) d c = refl
-
--- four marks put in one by one
-pub four-marks : (l : List ℕ) (k a b c d : ℕ) → set (set (set (set l k a) (k + 1) b) (k + 2) c) (k + 3) d ≡ sets l k (a ∷ b ∷ c ∷ d ∷ [])
-four-marks l k a b c d = simp towards_suc
 
 -- marks put over as many others
 pub marks-over : (ms ys new : List ℕ) (k : ℕ) {n : ℕ} → new ≡ ys → n ≡ length ys → k + length ys ≤ length ms → put_mid k n ms new ≡ sets ms k ys

@@ -1,7 +1,6 @@
 -- The loops that join the wires of a variable, or of a procedure's callers, and those of all variables, and that put the memories and the arrays
 -- in: what is still to be done comes out as at the start. Assumes nothing.
 use mathlib.Core.Path.{◌≡◌, refl, sym, ◌∙◌, ap}
-use Rattle.std.specs.Prelude.{Option, Some, None, unwrap_or}
 use mathlib.Core.List.{List, [], ◌∷◌, ◌++◌, append-nil}
 use Prim.Native.Nat.{ℕ, zero, suc, ◌+◌, ◌-◌, ◌*◌, ◌≤◌, ◌<◌}
 use native.Mathlib.Omega.{arith}
@@ -11,7 +10,7 @@ use lib.ListN.{length, get_or, set, take, drop, length-set, drop_of_length-le}
 use lib.Seq.{sets, sets-eq, drop_at, get_or-drop, length-take-le}
 use Rattle.model.specs.declared.Cell.{Cell}
 use Rattle.model.specs.Circuit.{cell}
-use Rattle.model.specs.Numbering.{Source, wires_of, or_chain, or_chain_out, ors, ors_out, or_count, ors_from, outs_from, or_count_from, memories_of, arrays_of}
+use Rattle.model.specs.Numbering.{Source, wires_of, ors, ors_out, or_count, ors_from, outs_from, or_count_from, memories_of, arrays_of}
 use Rattle.model.specs.Program.{array_var}
 use Rattle.laws.specs.Numbering.Lengths.{ors-len}
 use Rattle.laws.specs.Numbering.Parts.{outs-len}
@@ -19,104 +18,42 @@ use Rattle.compiler.specs.declared.walk.Word.{Word}
 use Rattle.compiler.specs.declared.ors.Joint.{Joint}
 use Rattle.compiler.specs.declared.ors.Ors.{Ors}
 use Rattle.compiler.specs.Writes.{write}
-use Rattle.compiler.specs.Ors.{sources_from, Joined, Ored}
+use Rattle.compiler.specs.Ors.{sources_in, Joined, Ored}
 use Rattle.compiler.proofs.Writes.{behind, write-none, write-append, write-length}
 
 -- The wires of one variable ------------------------------------------------------------------------------------------------------------
 
--- what is still to be done with some wires, where a first wire has been seen before them or not
-unfoldable pub rest : ℕ → Option ℕ → ℕ → List ℕ → List Cell
-rest kind (Some acc) n ws = or_chain kind acc n ws
-rest kind None n ws = ors kind n ws
+-- four marks, and those behind them
+sources-step : (f : ℕ) → f ≤ 3 → (m l : List ℕ) → length m ≡ 4 → sources_in f (m ++ l) ≡ (get_or m 0 0, get_or m f 0) ∷ sources_in f l
+unfolding sources_in
+sources-step f h [] l e = absurd (omega arith)
+sources-step f h (x ∷ []) l e = absurd (omega arith)
+sources-step f h (x ∷ (a ∷ [])) l e = absurd (omega arith)
+sources-step f h (x ∷ (a ∷ (b ∷ []))) l e = absurd (omega arith)
+sources-step f h (x ∷ (a ∷ (b ∷ (w ∷ [])))) l e = refl
+sources-step f h (x ∷ (a ∷ (b ∷ (w ∷ (v ∷ m))))) l e = absurd (omega arith)
 
-unfoldable pub rest_out : ℕ → Option ℕ → ℕ → List ℕ → ℕ
-rest_out none (Some acc) n ws = or_chain_out acc n ws
-rest_out none None n ws = ors_out none n ws
+sources-none : (f : ℕ) (l : List ℕ) → length l < 4 → sources_in f l ≡ []
+unfolding sources_in
+sources-none f [] e = refl
+sources-none f (x ∷ []) e = refl
+sources-none f (x ∷ (a ∷ [])) e = refl
+sources-none f (x ∷ (a ∷ (b ∷ []))) e = refl
+sources-none f (x ∷ (a ∷ (b ∷ (w ∷ l)))) e = absurd (omega arith)
 
-unfoldable pub rest_count : Option ℕ → List ℕ → ℕ
-rest_count (Some acc) ws = length ws
-rest_count None ws = or_count ws
+-- the wires of x in marks of which four come first
+module _ (f x : ℕ) (h : f ≤ 3) (m l : List ℕ) {all : List ℕ} (e : all ≡ m ++ l) (four : length m ≡ 4) where
+  pub wires-more : get_or m 0 0 ≡ x → wires_of x (sources_in f all) ≡ get_or m f 0 ∷ wires_of x (sources_in f l)
+  unfolding wires_of
+  wires-more is = rw (e, sources-step f h m l four, eq-eqb (get_or m 0 0) x is) refl
 
--- the wires of x from assignment or call k on
-abbrev pub wires_from : Joint → List ℕ → ℕ → ℕ → ℕ → List ℕ
-wires_from j ms count x k = wires_of x (sources_from j.mark ms k (count - k))
+  pub wires-same : (get_or m 0 0 ≡ x → ⊥) → wires_of x (sources_in f all) ≡ wires_of x (sources_in f l)
+  unfolding wires_of
+  wires-same is = rw (e, sources-step f h m l four, ne_eqb (get_or m 0 0) x is) refl
 
-pub record Chaining (j : Joint) (ms : List ℕ) (count x n : ℕ) (before cells : List ℕ) (so_far : Option ℕ) (next k : ℕ) : Type 0 where
-  pub cells_are : write next (rest j.kind so_far next (wires_from j ms count x k)) cells ≡ write n (ors j.kind n (wires_of x (sources_from j.mark ms 0 count))) before
-  pub wire : rest_out j.none so_far next (wires_from j ms count x k) ≡ ors_out j.none n (wires_of x (sources_from j.mark ms 0 count))
-  pub cell : next + rest_count so_far (wires_from j ms count x k) ≡ n + or_count (wires_of x (sources_from j.mark ms 0 count))
-  pub same : length cells ≡ length before
-
-module _ (j : Joint) (ms : List ℕ) (count x n : ℕ) (before : List ℕ) where
-  pub chain-start : Chaining j ms count x n before before None n 0
-  unfolding rest rest_out rest_count
-  chain-start = let e : count - 0 ≡ count = omega arith in record { cells_are = rw e; wire = rw e; cell = rw e; same = refl }
-
-  module _ {k : ℕ} where
-    sources-none : count ≤ k → sources_from j.mark ms k (count - k) ≡ []
-    unfolding sources_from
-    sources-none h = let e : count - k ≡ 0 = omega arith in ap (sources_from j.mark ms k) e
-
-    module _ (h : k < count) where
-      sources-more : sources_from j.mark ms k (count - k) ≡ (get_or ms (4 * k) 0, get_or ms (4 * k + j.mark) 0) ∷ sources_from j.mark ms (k + 1) (count - (k + 1))
-      unfolding sources_from
-      sources-more = let e : count - k ≡ suc (count - (k + 1)) = omega arith in ap (sources_from j.mark ms k) e
-
-      wires-more : get_or ms (4 * k) 0 ≡ x → wires_from j ms count x k ≡ get_or ms (4 * k + j.mark) 0 ∷ wires_from j ms count x (k + 1)
-      unfolding wires_of
-      wires-more e = rw (sources-more, eq-eqb (get_or ms (4 * k) 0) x e)
-
-      wires-same : (get_or ms (4 * k) 0 ≡ x → ⊥) → wires_from j ms count x k ≡ wires_from j ms count x (k + 1)
-      unfolding wires_of
-      wires-same e = rw (sources-more, ne_eqb (get_or ms (4 * k) 0) x e)
-
-  module _ {cells : List ℕ} {next k : ℕ} where
-    module _ {so_far : Option ℕ} (h : k < count) (C₀ : Chaining j ms count x n before cells so_far next k) where
-      pub chain-skip : (get_or ms (4 * k) 0 ≡ x → ⊥) → Chaining j ms count x n before cells so_far next (k + 1)
-      chain-skip e =
-          let q = wires-same h e in
-          record { cells_are = rw q at C₀.cells_are; wire = rw q at C₀.wire; cell = rw q at C₀.cell; same = C₀.same }
-
-      module _ (e : get_or ms (4 * k) 0 ≡ x) where
-        pub chain_first : so_far ≡ None → Chaining j ms count x n before cells (Some (get_or ms (4 * k + j.mark) 0)) next (k + 1)
-        unfolding rest rest_out rest_count ors ors_out or_count
-        chain_first s =
-            let C = rw s at C₀ in
-            let q = wires-more h e in
-            record { cells_are = rw q at C.cells_are; wire = rw q at C.wire; cell = rw q at C.cell; same = C.same }
-
-        module _ {acc : ℕ} (s : so_far ≡ Some acc) where
-          pub chain-room : next + 1 ≤ n + or_count (wires_of x (sources_from j.mark ms 0 count))
-          unfolding rest_count
-          chain-room =
-              let C = rw s at C₀ in
-              let q = rw (wires-more h e) at C.cell in
-              omega (arith, q)
-
-          pub chain_more : {after : List ℕ} → after ≡ write next (cell j.kind 0 acc (get_or ms (4 * k + j.mark) 0) ∷ []) cells
-              → Chaining j ms count x n before after (Some next) (next + 1) (k + 1)
-          unfolding rest rest_out rest_count or_chain or_chain_out
-          chain_more w =
-              let C = rw s at C₀ in
-              let q = wires-more h e in
-              let y = cell j.kind 0 acc (get_or ms (4 * k + j.mark) 0) in
-              let Y = or_chain j.kind next (next + 1) (wires_from j ms count x (k + 1)) in
-              record {
-                cells_are = ap (write (next + 1) Y) w ∙ write-append next (next + 1) (y ∷ []) Y cells refl ∙ (rw q at C.cells_are);
-                wire = rw q at C.wire;
-                cell = let z = rw q at C.cell in omega (arith, z);
-                same = ap length w ∙ write-length next (y ∷ []) cells ∙ C.same;
-              }
-
-    pub chain-end : (so_far : Option ℕ) → Chaining j ms count x n before cells so_far next k → count ≤ k
-        → Joined j n (wires_of x (sources_from j.mark ms 0 count)) before cells (record { wire = unwrap_or so_far j.none; cell = next })
-    unfolding rest rest_out rest_count ors ors_out or_count or_chain or_chain_out wires_of
-    chain-end (Some acc) C h =
-        let e = sources-none h in
-        record { cells = sym (write-none next cells) ∙ (rw e at C.cells_are); wire = rw e at C.wire; cell = omega (arith, rw e at C.cell) }
-    chain-end None C h =
-        let e = sources-none h in
-        record { cells = sym (write-none next cells) ∙ (rw e at C.cells_are); wire = rw e at C.wire; cell = omega (arith, rw e at C.cell) }
+pub wires-none : (f x : ℕ) (l : List ℕ) → length l < 4 → wires_of x (sources_in f l) ≡ []
+unfolding wires_of
+wires-none f x l h = rw (sources-none f l h) refl
 
 -- The wires of all variables -----------------------------------------------------------------------------------------------------------
 

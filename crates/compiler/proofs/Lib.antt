@@ -3,6 +3,7 @@ pub mod Writes
 pub mod Reading
 pub mod Exprs
 pub mod Growth
+pub mod Chains
 pub mod Exits
 pub mod Stmts
 pub mod Parts

@@ -8,24 +8,17 @@ use native.Mathlib.Omega.{arith}
 use native.Mathlib.Decide.{ℕ_discrete}
 use lib.Dec.{eqb}
 use borrow.Author.Tests.{eq-eqb, ne_eqb}
-use lib.ListN.{length, get_or, length-append, drop}
-use lib.Seq.{sets, sets-eq, get_or-append-add}
+use lib.ListN.{length, get_or, length-append, take, drop}
+use Rattle.std.proofs.lemmas.List.{take-append-drop}
+use lib.Seq.{sets, sets-eq, get_or-append-add, length-take-le}
 use Rattle.model.specs.Word.{pick}
 use Rattle.model.specs.Program.{Code, ok, tick, assign, assign_elem, seq, par, ite, while, repeat, loop, exit, call, array_var}
 use Rattle.model.specs.Numbering.{expr_count, past_switches, if_delay_count, delay_count, walk_count, Source, clock_sources, call_sources, data_sources, address_sources, wires_of, root_walk, past_root, root_sources, root_walk_sources}
 use Rattle.laws.specs.Program.Fit.{Formed, EveryRoot}
 use Rattle.compiler.specs.Walk.{marks_of}
-use Rattle.compiler.specs.Ors.{sources_from}
+use Rattle.compiler.specs.Ors.{sources_from, sources_in}
 use Rattle.compiler.specs.Whole.{root_assignments, root_marks}
 use Rattle.compiler.proofs.Growth.{marks-length}
-
--- the sources that a list of marks tells, four for each
-sources_in : ℕ → List ℕ → List Source
-sources_in f [] = []
-sources_in f (x ∷ []) = []
-sources_in f (x ∷ (a ∷ [])) = []
-sources_in f (x ∷ (a ∷ (b ∷ []))) = []
-sources_in f (x ∷ (a ∷ (b ∷ (w ∷ l)))) = (x, get_or (x ∷ a ∷ b ∷ w ∷ []) f 0) ∷ sources_in f l
 
 -- Marks and trees ----------------------------------------------------------------------------------------------------------------------
 
@@ -159,6 +152,13 @@ sources-at f h (suc n) (x ∷ (a ∷ (b ∷ (w ∷ l)))) p q k e g =
     ap₂ (λ (s : Source) (ss : List Source). s ∷ ss) (ap₂ (λ (u v : ℕ). (u, v)) here wire)
     (ap (λ (m : List ℕ). sources_from f m (k + 1) n) (sym (append_assoc p (x ∷ a ∷ b ∷ w ∷ []) (l ++ q)))
     ∙ sources-at f h n l (p ++ (x ∷ a ∷ b ∷ w ∷ [])) q (k + 1) (omega arith) (simp length-append (omega arith)))
+
+-- the first marks alone
+pub sources-taken : (f : ℕ) → f ≤ 3 → (n : ℕ) (ms : List ℕ) → 4 * n ≤ length ms → sources_in f (take (4 * n) ms) ≡ sources_from f ms 0 n
+sources-taken f h n ms l =
+    sym
+    (ap (λ (m : List ℕ). sources_from f m 0 n) (sym (take-append-drop (4 * n) ms))
+    ∙ sources-at f h n (take (4 * n) ms) [] (drop (4 * n) ms) 0 (length-take-le (4 * n) ms l) refl)
 
 roots-marks-length : (cs : List Source) (r : ℕ) (Ps : List Code) (d c : ℕ) → length (root_marks cs r Ps d c) ≡ 4 * root_assignments Ps
 unfolding root_marks root_assignments

@@ -5,7 +5,7 @@ use Prim.Native.Nat.{ℕ, ◌+◌, ◌*◌, ◌≤◌, ◌<◌}
 use native.Mathlib.Omega.{arith}
 use lib.ListN.{length}
 use Rattle.model.specs.Program.{Expr, Code, assign, assign_elem, seq, par, ite, while, repeat, loop, call}
-use Rattle.model.specs.Numbering.{memory_wires, expr_count, past_switches, delay_count, walk_count, loop_exits}
+use Rattle.model.specs.Numbering.{Wires, memory_wires, expr_count, past_switches, delay_count, walk_count, loop_exits}
 use Rattle.laws.specs.Numbering.Lengths.{exit-ors}
 use Rattle.laws.specs.Program.Fit.{FormedExpr, Formed, Earlier}
 use Rattle.compiler.specs.declared.walk.Word.{Word}
@@ -16,7 +16,7 @@ use Rattle.compiler.proofs.Growth.{left}
 use Rattle.compiler.proofs.Exits.{opened-waiting}
 
 -- the switches' cells have small numbers
-pub switch-low : {M n c g t : ℕ} {E : Expr} {b a : List ℕ} → SwitchReady M E c n → Switched (memory_wires M) E c g b a t → t + 2 ≤ 627
+pub switch-low : {n c g t : ℕ} {E : Expr} {ws : Wires} {b a : List ℕ} → SwitchReady E c n → Switched ws E c g b a t → t + 2 ≤ 7043
 switch-low r sw = omega (arith, r.room, r.expr.small, sw.switch)
 
 module _ {M n : ℕ} {p : Place} where
@@ -36,10 +36,10 @@ module _ {M n : ℕ} {p : Place} where
           outs = omega (arith, x, r.outs);
         }
 
-    expr-part : {E : Expr} {c : ℕ} → FormedExpr E → c + expr_count E ≤ p.cell + walk_count S → ExprReady M E c n
-    expr-part w b = record { formed = w; memory = r.memory; room = omega (arith, b, r.room); small = r.small }
+    expr-part : {E : Expr} {c : ℕ} → FormedExpr E → c + expr_count E ≤ p.cell + walk_count S → ExprReady E c n
+    expr-part w b = record { formed = w; room = omega (arith, b, r.room); small = omega (arith, r.small) }
 
-    switch-part : {E : Expr} → FormedExpr E → past_switches E p.cell ≤ p.cell + walk_count S → SwitchReady M E p.cell n
+    switch-part : {E : Expr} → FormedExpr E → past_switches E p.cell ≤ p.cell + walk_count S → SwitchReady E p.cell n
     switch-part w b = record { expr = expr-part w (omega (arith, b)); room = omega (arith, b, r.room) }
 
     -- its delay cells lie within the list
@@ -50,7 +50,7 @@ module _ {M n : ℕ} {p : Place} where
     pub own-fits : delay_count S ≡ 2 → assignments S ≡ 1 → (6 * (p.delay + 2) ≤ n) × (n ≤ 3762) × (p.mark + 4 ≤ 800)
     own-fits d a = (omega (arith, d, delays-fit), r.small, omega (arith, a, r.marks))
 
-  pub assign-expr : {δ x : ℕ} {E : Expr} → Ready M (assign δ x E) p n → ExprReady M E p.cell n
+  pub assign-expr : {δ x : ℕ} {E : Expr} → Ready M (assign δ x E) p n → ExprReady E p.cell n
   unfolding walk_count
   assign-expr r = expr-part r r.formed.2 (omega arith)
 
@@ -61,12 +61,12 @@ module _ {M n : ℕ} {p : Place} where
   assign-cell r u = omega (arith, r.room, u.cell)
 
   module _ {δ v : ℕ} {I E : Expr} (r : Ready M (assign_elem δ v I E) p n) where
-    pub element-index : ExprReady M I p.cell n
+    pub element-index : ExprReady I p.cell n
     unfolding walk_count
     element-index = expr-part r r.formed.2 (omega arith)
 
     module _ {b a : List ℕ} {i : Word} (u : ExprDone (memory_wires M) I p.cell b a i) where
-      pub element-value : ExprReady M E i.cell n
+      pub element-value : ExprReady E i.cell n
       unfolding walk_count
       element-value = expr-part r r.formed.3 (omega (arith, u.cell))
 
@@ -104,7 +104,7 @@ module _ {M n : ℕ} {p : Place} where
     par-merge r u v = omega (arith, r.room, u.cell, v.cell)
 
     module _ {δ : ℕ} {E : Expr} (r : Ready M (ite δ E P Q) p n) where
-      pub if-switches : SwitchReady M E p.cell n
+      pub if-switches : SwitchReady E p.cell n
       unfolding walk_count
       if-switches = switch-part r r.formed.1 (omega arith)
 
@@ -127,7 +127,7 @@ module _ {M n : ℕ} {p : Place} where
         if-merge u v = omega (arith, r.room, sw.switch, u.cell, v.cell)
 
   module _ {δ : ℕ} {E : Expr} {P : Code} where
-    pub while-switches : Ready M (while δ E P) p n → SwitchReady M E p.cell n
+    pub while-switches : Ready M (while δ E P) p n → SwitchReady E p.cell n
     unfolding walk_count
     while-switches r = switch-part r r.formed.1 (omega arith)
 
@@ -141,7 +141,7 @@ module _ {M n : ℕ} {p : Place} where
     unfolding walk_count
     while-merge r sw u = omega (arith, r.room, sw.switch, u.cell)
 
-    pub repeat-switches : Ready M (repeat δ E P) p n → SwitchReady M E p.cell n
+    pub repeat-switches : Ready M (repeat δ E P) p n → SwitchReady E p.cell n
     unfolding walk_count
     repeat-switches r = switch-part r r.formed.1 (omega arith)
 

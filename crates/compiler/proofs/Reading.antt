@@ -20,18 +20,18 @@ module _ (s : List ℕ) (i : ℕ) where
     record { nothing = λ e. stmt-none s i h; here = λ n. absurd (n refl) },
   )
 
-  module _ (a : Node) (h : i < node_count s) (e : a ≡ node_at s i) where
+  module _ {a : Node} (u : (i < node_count s) × (a ≡ node_at s i)) where
     pub other-expr : 16 ≤ a.kind → ExprNode s i (none 1)
-    other-expr l = record { constant = λ q. no-expr s i h a e l; here = λ n. absurd (n refl) }
+    other-expr l = record { constant = λ q. no-expr s i u.0 a u.1 l; here = λ n. absurd (n refl) }
 
     pub expr-read : a.kind < 16 → ExprNode s i a
-    expr-read l = record { constant = λ q. at-const s i h a e q; here = λ n. (h, l, e) }
+    expr-read l = record { constant = λ q. at-const s i u.0 a u.1 q; here = λ n. (u.0, l, u.1) }
 
     pub other-stmt : a.kind < 16 → StmtNode s i (none 16)
-    other-stmt l = record { nothing = λ q. no-stmt s i h a e l; here = λ n. absurd (n refl) }
+    other-stmt l = record { nothing = λ q. no-stmt s i u.0 a u.1 l; here = λ n. absurd (n refl) }
 
     pub stmt-read : 16 ≤ a.kind → StmtNode s i a
-    stmt-read l = record { nothing = λ q. at_ok s i h a e q; here = λ n. (h, omega arith, e) }
+    stmt-read l = record { nothing = λ q. at_ok s i u.0 a u.1 q; here = λ n. (u.0, omega arith, u.1) }
 
 -- a node with children, of which the first ends before node j
 module _ {s ends : List ℕ} {i j : ℕ} {a : Node} (l : Laid s ends) where

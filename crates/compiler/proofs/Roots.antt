@@ -28,7 +28,7 @@ use Rattle.compiler.proofs.Growth.{marks-length}
 -- One root -----------------------------------------------------------------------------------------------------------------------------
 
 -- its walk is ready behind its 35s
-pub root-walk : {M count n : ℕ} {ws before mid : List ℕ} {P : Code} {p : Place} {j : Joint} {w : Word} → RootReady M ws count P p n
+pub root-walk : {M n : ℕ} {ws before mid : List ℕ} {P : Code} {p : Place} {j : Joint} {w : Word} → RootReady M ws P p n
     → Joined j p.cell ws before mid w → Ready M P (place w.wire p.delay w.cell p.mark 0) n
 root-walk r u =
     let v = r.walk in
@@ -45,8 +45,8 @@ root-walk r u =
     })
 
 -- its 35s, and then its walk
-pub root-done : {pulse M : ℕ} {F : ℕ → ℕ} {ws : List ℕ} {count n : ℕ} {P : Code} {p r : Place} {j : Joint} {w : Word} {before mid after marked remarked : List ℕ}
-    → RootReady M ws count P p n → j.kind ≡ 35 → Joined j p.cell ws before mid w
+pub root-done : {pulse M : ℕ} {F : ℕ → ℕ} {ws : List ℕ} {n : ℕ} {P : Code} {p r : Place} {j : Joint} {w : Word} {before mid after marked remarked : List ℕ}
+    → RootReady M ws P p n → j.kind ≡ 35 → Joined j p.cell ws before mid w
     → Done pulse M F P (place w.wire p.delay w.cell p.mark 0) mid after marked remarked r
     → RootDone pulse M F j.none ws P p before after marked remarked r
 unfolding both

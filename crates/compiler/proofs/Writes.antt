@@ -42,6 +42,12 @@ pub write_two : (k : ℕ) (x y : Cell) (s : List ℕ) {mid end : List ℕ} → m
     → end ≡ write k (x ∷ y ∷ []) s
 write_two k x y s a b = b ∙ ap (write (k + 1) (y ∷ [])) a ∙ write-append k (k + 1) (x ∷ []) (y ∷ []) s refl
 
+-- and the next two
+pub write-three : (k : ℕ) (x y z : Cell) (s : List ℕ) {m₁ m₂ end : List ℕ} → m₁ ≡ write k (x ∷ []) s → m₂ ≡ write (k + 1) (y ∷ []) m₁
+    → end ≡ write (k + 2) (z ∷ []) m₂ → end ≡ write k (x ∷ y ∷ z ∷ []) s
+write-three k x y z s a b c =
+    c ∙ ap (write (k + 2) (z ∷ [])) (write_two k x y s a b) ∙ write-append k (k + 2) (x ∷ y ∷ []) (z ∷ []) s refl
+
 -- Delay cells and walk cells -----------------------------------------------------------------------------------------------------------
 
 module _ (d c : ℕ) (xs ys : List Cell) (s : List ℕ) (zs : List Cell) (m : ℕ) where

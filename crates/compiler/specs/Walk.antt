@@ -13,12 +13,11 @@ use Rattle.compiler.specs.Writes.{write, both}
 abbrev pub word : ℕ → ℕ → Word
 word w c = record { wire = w; cell = c }
 
--- e goes to cell c of a list of n bytes; the first memory is cell M
-pub record ExprReady (M : ℕ) (e : Expr) (c n : ℕ) : Type 0 where
+-- e goes to cell c of a list of n bytes
+pub record ExprReady (e : Expr) (c n : ℕ) : Type 0 where
   pub formed : FormedExpr e
-  pub memory : M + 24 ≤ 627
   pub room : 6 * (c + expr_count e) ≤ n
-  pub small : n ≤ 3762
+  pub small : n ≤ 42258
 
 pub record ExprDone (ws : Wires) (e : Expr) (c : ℕ) (before after : List ℕ) (r : Word) : Type 0 where
   pub cells : after ≡ write c (expr_cells ws e c) before
@@ -26,8 +25,8 @@ pub record ExprDone (ws : Wires) (e : Expr) (c : ℕ) (before after : List ℕ) 
   pub cell : r.cell ≡ c + expr_count e
 
 -- a condition and its switches go there
-pub record SwitchReady (M : ℕ) (e : Expr) (c n : ℕ) : Type 0 where
-  pub expr : ExprReady M e c n
+pub record SwitchReady (e : Expr) (c n : ℕ) : Type 0 where
+  pub expr : ExprReady e c n
   pub room : 6 * past_switches e c ≤ n
 
 pub record Switched (ws : Wires) (e : Expr) (c if_pulse : ℕ) (before after : List ℕ) (r : ℕ) : Type 0 where

@@ -1,8 +1,10 @@
 -- What the walk of a root, the walks of all roots and the parts of the whole netlist ask and leave. Assumes nothing: definitions.
 use Rattle.model.specs.Refusals.{Accepted}
-use Rattle.std.specs.Prelude.{◌≡◌, List, [], ◌∷◌, ◌++◌, ℕ, ◌+◌, ◌*◌, ◌≤◌, length, get_or, drop}
+use Rattle.std.specs.Prelude.{◌≡◌, List, [], ◌∷◌, ◌++◌, ℕ, ◌+◌, ◌*◌, ◌≤◌, length, get_or, drop, Result, Ok, Err}
 use Rattle.std.proofs.lemmas.List.Edits.{sets}
 use Rattle.model.specs.declared.Options.{Options}
+use Rattle.model.specs.declared.Refusal.{Refusal}
+use Rattle.model.specs.ProgramChecks.{program_with}
 use Rattle.model.specs.Program.{Code, Program, program_of, roots}
 use Rattle.model.specs.NetlistFile.{cells_at, in_list}
 use Rattle.model.specs.Numbering.{memory_wires, ors, ors_out, or_count, delay_count, walk_count, finish_wire, delays, walk, Source, wires_of, root_delay_count, root_walk, past_root, root_walk_count, root_finishes, root_delays, root_walks}
@@ -18,7 +20,7 @@ use Rattle.compiler.specs.declared.whole.Finished.{Finished}
 use Rattle.compiler.specs.declared.whole.Netlist.{Netlist}
 use Rattle.compiler.specs.Writes.{write, both}
 use Rattle.compiler.specs.Walk.{place, assignments, marks_of, Ready}
-use Rattle.compiler.specs.Ors.{sources_from}
+use Rattle.compiler.specs.Ors.{sources_from, sources_in}
 
 -- a program that is accepted with a pulse length, k procedures and some table, its array of subtree ends, and a list of 627 cells
 pub record Given (w k : ℕ) (s ends : List ℕ) (n : ℕ) : Type 0 where
@@ -46,6 +48,13 @@ pub record Told (cs : List Source) (ms : List ℕ) (n : ℕ) : Type 0 where
   pub few : n ≤ 200
   pub calls : (p : ℕ) → callers_of ms n p ≡ wires_of p cs
 
+-- the same where the marks are those of the assignments and calls alone
+abbrev pub callers_in : List ℕ → ℕ → List ℕ
+callers_in ms p = wires_of (20 + p) (sources_in 1 ms)
+
+abbrev pub Calls : List Source → List ℕ → Type 0
+Calls cs ms = (p : ℕ) → callers_in ms p ≡ wires_of p cs
+
 -- the 35s that join the delays ws of a root's callers begin at a place; the last of them is the root's start, and its walk begins past them
 abbrev pub start_of : ℕ → List ℕ → Place → ℕ
 start_of idle ws p = ors_out idle p.cell ws
@@ -54,8 +63,7 @@ abbrev pub past_ors : List ℕ → Place → ℕ
 past_ors ws p = p.cell + or_count ws
 
 -- root P goes to place p of a list of n bytes
-pub record RootReady (M : ℕ) (ws : List ℕ) (count : ℕ) (P : Code) (p : Place) (n : ℕ) : Type 0 where
-  pub few : count ≤ 200
+pub record RootReady (M : ℕ) (ws : List ℕ) (P : Code) (p : Place) (n : ℕ) : Type 0 where
   pub apart : p.delay + delay_count P ≤ p.cell
   pub walk : Ready M P (place 0 p.delay (past_ors ws p) p.mark 0) n
 
@@ -85,10 +93,10 @@ abbrev pub behind_arrays : ℕ → ℕ
 behind_arrays M = M + 16 + 8
 
 -- all roots go to a list of n bytes; the marks tell their callers
-pub record RootsReady (w k : ℕ) (s ends ms : List ℕ) (count M n : ℕ) : Type 0 where
+pub record RootsReady (w k : ℕ) (s ends ms : List ℕ) (M n : ℕ) : Type 0 where
   pub given : Given w k s ends n
   pub calls : List Source
-  pub told : Told calls ms count
+  pub told : Calls calls ms
   pub apart : 3 + root_delay_count (roots (program_of w k s)) ≤ behind_arrays M
   pub room : behind_arrays M + root_walk_count calls 0 (roots (program_of w k s)) ≤ 627
 
@@ -154,6 +162,11 @@ pub record Made (S : Program) (after : List ℕ) (r : Netlist) : Type 0 where
   pub count : r.count ≡ length (netlist S)
   pub finish : r.finish ≡ finish S
   pub ors : r.ors ≡ data_at S
+
+-- what listing tells of a program: its refusal, or its netlist
+abbrev pub Listed : Options → List ℕ → List ℕ → Result Netlist Refusal → Type 0
+Listed options s after (Ok r) = (check_call options s ≡ Accepted) × Made (program_with options s) after r
+Listed options s after (Err q) = check_call options s ≡ Err q
 
 -- the clock ors and the walk of S have been put in
 pub record Closing (S : Program) (after : List ℕ) (k : Clocks) (w : Finished) : Type 0 where

@@ -7,16 +7,33 @@ ghost use Rattle.std.specs.Prelude.{◌≡◌, ◌≤◌, length};
 ghost use Rattle.model.specs.ProgramChecks.{program_with};
 ghost use Rattle.model.specs.Numbering.{netlist};
 ghost use Rattle.model.specs.Calls.{overwrite, check_call, compiled_file, compile_call};
-ghost use Rattle.compiler.specs.Whole.{Made};
+ghost use Rattle.compiler.specs.Whole.{Made, Listed};
 
 pub mod nodes; // nodes as parts of the tree
+pub mod words; // where words come from
+pub mod chain; // wires joined one after another
 pub mod walk; // delay cells and walk cells
 pub mod ors; // ors and memories
 pub mod whole; // the whole netlist
 
 use crate::whole::Netlist;
-use model::sizes::{BLOCK, BLOCK_CELLS, BLOCK_LAST, COMPILED_MOST};
-use model::{Checked, Options, Refusal, Written};
+use model::sizes::COMPILED_MOST;
+use model::{Options, Refusal, Written};
+
+// The cells of a program's netlist, six bytes each, into a list of their most: refusals 27, 19 to 21, 1 to 8, 22, 24 and 25.
+fn list_cells(options: Options, program: &[u8], cells: &mut [u8]) -> Result<Netlist, Refusal>
+    requires { length cells.old ≡ 3762 }
+    ensures { Listed options program.now cells.new result }
+{
+    let told = program::scan(options, program)?;
+    Ok(whole::put_netlist(
+        cells,
+        program,
+        &told.ends,
+        options.procedures,
+        options.pulse,
+    ))
+}
 
 // How many cells the netlist of an accepted program has; its file takes 512 bytes for every 84 of them.
 pub fn count_cells(options: Options, program: &[u8]) -> usize
@@ -33,14 +50,7 @@ pub fn list_accepted(options: Options, program: &[u8], cells: &mut [u8]) -> Netl
     requires { (check_call options program.now ≡ Accepted) × (length cells.old ≡ 3762) }
     ensures { Made (program_with options program.now) cells.new result }
 {
-    let told = program::scan(options, program).unwrap();
-    whole::put_netlist(
-        cells,
-        program,
-        &told.ends,
-        options.procedures,
-        options.pulse,
-    )
+    list_cells(options, program, cells).unwrap()
 }
 
 // Writes the netlist file of an accepted program into a buffer that is long enough; answers its length.
@@ -49,11 +59,7 @@ pub fn compile_accepted(options: Options, program: &[u8], netlist: &mut [u8]) ->
     ensures length { result ≡ length (compiled_file options program.now) }
     ensures lent { netlist.new ≡ overwrite (compiled_file options program.now) netlist.old }
 {
-    let mut cells = [0u8; COMPILED_MOST];
-    let made = list_accepted(options, program, &mut cells);
-    let n = usize::from(made.count);
-    netlist::blocks::put_file(netlist, &cells, n, u16::from(options.pulse), made.finish);
-    BLOCK * ((n + BLOCK_LAST) / BLOCK_CELLS)
+    compile(options, program, netlist).unwrap().count
 }
 
 // Compiles a program: refusals 27, 19 to 21, 1 to 8, 22, 24 and 25, and 14.
@@ -61,15 +67,8 @@ pub fn compile(options: Options, program: &[u8], netlist: &mut [u8]) -> Result<W
     ensures answer { result ≡ (compile_call options program.now netlist.old).answer }
     ensures lent { netlist.new ≡ (compile_call options program.now netlist.old).lent }
 {
-    let told = program::scan(options, program)?;
     let mut cells = [0u8; COMPILED_MOST];
-    let made = whole::put_netlist(
-        &mut cells,
-        program,
-        &told.ends,
-        options.procedures,
-        options.pulse,
-    );
+    let made = list_cells(options, program, &mut cells)?;
     netlist::write_file(
         netlist,
         &cells,

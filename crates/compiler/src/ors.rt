@@ -2,12 +2,13 @@
 // of each procedure's callers. Arrays are variables 16 to 19.
 // An assignment has four marks: its variable, its first delay cell, its kind 41 cells, of the value and of an element's index. So has a call:
 // 20 and the procedure, which is above every variable, its delay cell, and two that are never read.
-// The marks are numbers one after another, with their count beside: the joiner keeps the same, and what it passes on here may not change.
+// The marks are numbers one after another, and no structs: a joint takes one of the four by its number.
 ghost use Rattle.std.specs.Prelude.{◌≡◌, ◌+◌, ◌-◌, ◌*◌, ◌≤◌, length, drop};
 ghost use Rattle.model.specs.Numbering.{wires_of, or_count, or_count_from, memories_of, arrays_of};
 ghost use Rattle.compiler.specs.Writes.{write};
-ghost use Rattle.compiler.specs.Ors.{sources_from, OrsReady, Joined, Ored};
+ghost use Rattle.compiler.specs.Ors.{sources_in, OrsReady, Joined, Ored};
 
+use crate::chain::Chain;
 use crate::walk::Word;
 
 // How wires are joined: the kind of the ors, the wire where there is none to join, which of its marks is an assignment's or a call's wire, and
@@ -28,56 +29,36 @@ pub struct Ors {
 }
 
 // Joins the wires of variable x, from cell n on; of 20 + p they are the delays of the callers of procedure p.
-pub fn put_chain(
-    cells: &mut [u8],
-    marks: &[u16; 800],
-    count: usize,
-    joint: Joint,
-    x: u16,
-    n: u16,
-) -> Word
-    requires { OrsReady joint count n (or_count (wires_of x (sources_from joint.mark marks.now 0 count))) (length cells.old) }
-    ensures { Joined joint n (wires_of x (sources_from joint.mark marks.now 0 count)) cells.old cells.new result }
+pub fn put_chain(cells: &mut [u8], marks: &[u16], joint: Joint, x: u16, n: u16) -> Word
+    requires { OrsReady joint n (or_count (wires_of x (sources_in joint.mark marks.now))) (length cells.old) }
+    ensures { Joined joint n (wires_of x (sources_in joint.mark marks.now)) cells.old cells.new result }
 {
-    let mark = joint.mark;
-    let mut so_far: Option<u16> = None;
-    let mut next = n;
-    for k in 0..count {
-        if marks[4 * k] == x {
-            let wire = marks[4 * k + mark];
-            match so_far {
-                None => so_far = Some(wire),
-                Some(a) => {
-                    crate::walk::put(cells, next, joint.kind, 0, a, wire);
-                    so_far = Some(next);
-                    next += 1;
-                }
-            }
+    let mut chain = Chain::new(joint.kind, n);
+    for own in marks.chunks_exact(4) {
+        if own[0] == x {
+            chain.join(cells, own[joint.mark]);
         }
     }
-    Word {
-        wire: so_far.unwrap_or(joint.none),
-        cell: next,
-    }
+    chain.end(joint.none)
 }
 
-// Joins the wires of all variables from the joint's first on, from cell n on.
-pub fn put_ors(cells: &mut [u8], marks: &[u16; 800], count: usize, joint: Joint, n: u16) -> Ors
-    requires { OrsReady joint count n (or_count_from (sources_from joint.mark marks.now 0 count) joint.first (20 - joint.first)) (length cells.old) }
-    ensures { Ored joint n (sources_from joint.mark marks.now 0 count) cells.old cells.new result }
+// Joins the wires of all variables from the joint's first on, from cell n on. x is the number that a chain is told, and where its wire stands: an
+// enumerate of `wires` with a skip would have to cast it back.
+pub fn put_ors(cells: &mut [u8], marks: &[u16], joint: Joint, n: u16) -> Ors
+    requires { OrsReady joint n (or_count_from (sources_in joint.mark marks.now) joint.first (20 - joint.first)) (length cells.old) }
+    ensures { Ored joint n (sources_in joint.mark marks.now) cells.old cells.new result }
 {
     let mut wires = [0u16; 20];
     let mut next = n;
     for x in joint.first..20 {
-        let joined = put_chain(cells, marks, count, joint, x, next);
-        let at = usize::from(x);
-        wires[at] = joined.wire;
+        let joined = put_chain(cells, marks, joint, x, next);
+        wires[usize::from(x)] = joined.wire;
         next = joined.cell;
     }
     Ors { wires, next }
 }
 
-// The sixteen memories, kind 40 of each variable's clock and data.
+// The sixteen memories, kind 40 of each variable's clock and data. Variable x is an index of both lists, and its memory's place.
 pub fn put_memories(cells: &mut [u8], clocks: &[u16; 20], datas: &[u16; 20], memory: u16)
     requires { (memory + 24 ≤ 627) × (6 * (memory + 24) ≤ length cells.old) × (length clocks.now ≡ 20) × (length datas.now ≡ 20) }
     ensures { cells.new ≡ write memory (memories_of clocks.now datas.now 0 16) cells.old }
@@ -88,7 +69,8 @@ pub fn put_memories(cells: &mut [u8], clocks: &[u16; 20], datas: &[u16; 20], mem
     }
 }
 
-// Array by array, kind 42 of its clock and data, and next to it kind 43 of its address.
+// Array by array, kind 42 of its clock and data, and next to it kind 43 of its address. Array k is the delay of its own 42 too,
+// so k is an index of three lists, and two numbers.
 pub fn put_arrays(
     cells: &mut [u8],
     clocks: &[u16; 20],

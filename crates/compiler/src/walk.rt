@@ -1,19 +1,23 @@
 // The walk: the delay cells and the walk cells of a statement, put into a list of cells.
 // What a function leaves is an equation of writes: `write k cs s` is the list s with the cells cs put in from cell k on.
-// The function of a kind is given the nodes of its children: first, second, third. `outs` has the starts of the exits that wait.
-ghost use Rattle.std.specs.Prelude.{◌≡◌, [], ◌∷◌, ℕ, ◌+◌, ◌*◌, ◌<◌, ◌≤◌, length};
+// `outs` has the starts of the exits that wait. Kinds are numbers, those of the published bytes of nodes and cells.
+ghost use Rattle.std.specs.Prelude.{◌≡◌, [], ◌∷◌, ℕ, ◌+◌, ◌*◌, ◌<◌, ◌≤◌, ◌⊎◌, length};
 ghost use Rattle.std.proofs.lemmas.List.Edits.{sets};
 ghost use Rattle.model.specs.Circuit.{cell};
-ghost use Rattle.model.specs.Numbering.{memory_wires};
+ghost use Rattle.model.specs.Numbering.{Wires};
 ghost use Rattle.model.specs.Program.{assign, assign_elem, seq, par, ite, while, repeat, loop, exit};
+ghost use Rattle.laws.specs.Program.Fit.{BasicExpr};
 ghost use Rattle.compiler.specs.Nodes.{IsLaid, expr_in, stmt_in};
 ghost use Rattle.compiler.specs.Writes.{write};
 ghost use Rattle.compiler.specs.Walk.{word, place, ExprReady, ExprDone, Owned, SwitchReady, Switched, Ready, finish_in, Done, Opened, waiting, ExitsReady, ExitsJoined};
 
+use crate::chain::Chain;
+use crate::words::{Memories, Words};
+use model::sizes::CELL;
 use model::{Cell, Node};
 use program::nodes::Tree;
 
-// A wire, an expression's or the pulse that an if switches, and the next cell.
+// A wire, an expression's, the pulse that an if switches or what wires were joined to, and the next cell.
 #[derive(Clone, Copy)]
 pub struct Word {
     pub wire: u16,
@@ -21,7 +25,7 @@ pub struct Word {
 }
 
 // Where the walk is: the wire that starts a statement or has just finished one, the next delay cell, the next walk cell, the next free entry of
-// the marks, and how many exits wait for the end of their loop.
+// the marks, and how many exits wait for the end of their loop. There is no heap: the marks and the exits lie in lists of a fixed size.
 #[derive(Clone, Copy)]
 pub struct Place {
     pub wire: u16,
@@ -31,12 +35,13 @@ pub struct Place {
     pub out: usize,
 }
 
-// What the walk is to know: the program, the first memory of the netlist around it, the length of a pulse, and the finish of each body that has
-// been walked, for the calls of it.
+// What the walk is to know: the program, the memories of the netlist around it, the length of a pulse, and the finish of each body that has
+// been walked, for the calls of it. That the tree is laid is said in each contract: as a field's fact it would have to be shown a proposition, which
+// was tried and did not close.
 #[derive(Clone, Copy)]
 pub struct Known<'a> {
     pub tree: Tree<'a>,
-    pub memory: u16,
+    pub words: Memories,
     pub pulse: u8,
     pub finishes: [u16; 9],
 }
@@ -50,13 +55,22 @@ pub struct Assigned {
     pub address: u16,
 }
 
+// A node, and where its children begin, as many as it has.
+#[derive(Clone, Copy)]
+pub struct Parent {
+    pub node: Node,
+    pub first: usize,
+    pub second: usize,
+    pub third: usize,
+}
+
 // Puts cell k in.
 pub fn put(cells: &mut [u8], k: u16, kind: u8, delay: u8, a: u16, b: u16)
     requires { 6 * k + 6 ≤ length cells.old }
     ensures { cells.new ≡ write k (cell kind delay a b ∷ []) cells.old }
 {
     let c = Cell { kind, delay, a, b };
-    netlist::cells::put_cell(cells, 6 * (k as usize), c, 0);
+    netlist::cells::put_cell(cells, CELL * usize::from(k), c, 0);
 }
 
 // Puts a word's cell in at k; it is the word's wire.
@@ -72,35 +86,35 @@ pub fn put_word(cells: &mut [u8], k: u16, kind: u8, a: u16, b: u16) -> Word
     }
 }
 
-// The cells of the expression at node i, from cell c on: children, then its cell; a variable is its memory cell. An element's a is its array's
-// kind 42, which stands behind the sixteenth memory.
-fn put_expr(cells: &mut [u8], known: &Known<'_>, i: usize, c: u16) -> Word
-    requires { IsLaid known.now.tree × ExprReady known.now.memory (expr_in known.now.tree i) c (length cells.old) }
-    ensures { ExprDone (memory_wires known.now.memory) (expr_in known.now.tree i) c cells.old cells.new result }
+// The cells of the expression at node i, from cell c on: children, then its cell; a variable is the wire that brings its word, and an element's a
+// its array's.
+pub fn put_expr<W: Words>(cells: &mut [u8], tree: &Tree<'_>, words: &W, i: usize, c: u16) -> Word
+    requires { IsLaid tree.now × ExprReady (expr_in tree.now i) c (length cells.old) × (W.has_arrays words.now ⊎ BasicExpr (expr_in tree.now i)) }
+    ensures { (ws : Wires) → W.come_on words.now ws → ExprDone ws (expr_in tree.now i) c cells.old cells.new result }
 {
-    let node = crate::nodes::expr_node(known.tree.program, i);
+    let node = crate::nodes::expr_node(tree.program, i);
     let kind = node.kind;
     if kind == 1 {
         return put_word(cells, c, 1, node.n, 0);
     }
     if kind == 2 {
         return Word {
-            wire: known.memory + node.n,
+            wire: words.variable(node.n),
             cell: c,
         };
     }
     let first = i + 1;
     if kind == 3 {
-        let e = put_expr(cells, known, first, c);
+        let e = put_expr(cells, tree, words, first, c);
         return put_word(cells, e.cell, 3, e.wire, 0);
     }
     if kind == 10 {
-        let e = put_expr(cells, known, first, c);
-        return put_word(cells, e.cell, 44, known.memory + 16 + 2 * node.n, e.wire);
+        let e = put_expr(cells, tree, words, first, c);
+        return put_word(cells, e.cell, 44, words.array(node.n), e.wire);
     }
-    let second = known.tree.next(first);
-    let e = put_expr(cells, known, first, c);
-    let f = put_expr(cells, known, second, e.cell);
+    let second = tree.next(first);
+    let e = put_expr(cells, tree, words, first, c);
+    let f = put_expr(cells, tree, words, second, e.cell);
     put_word(cells, f.cell, kind, e.wire, f.wire)
 }
 
@@ -123,17 +137,24 @@ pub fn put_own(cells: &mut [u8], delay: u8, start: u16, k: u16) -> Word
 }
 
 // A condition, and its 36 and 37; answers the 36.
-fn put_switches(cells: &mut [u8], known: &Known<'_>, i: usize, c: u16, pulse: u16) -> u16
-    requires { IsLaid known.now.tree × SwitchReady known.now.memory (expr_in known.now.tree i) c (length cells.old) }
-    ensures { Switched (memory_wires known.now.memory) (expr_in known.now.tree i) c pulse cells.old cells.new result }
+pub fn put_switches<W: Words>(
+    cells: &mut [u8],
+    tree: &Tree<'_>,
+    words: &W,
+    i: usize,
+    c: u16,
+    pulse: u16,
+) -> u16
+    requires { IsLaid tree.now × SwitchReady (expr_in tree.now i) c (length cells.old) × (W.has_arrays words.now ⊎ BasicExpr (expr_in tree.now i)) }
+    ensures { (ws : Wires) → W.come_on words.now ws → Switched ws (expr_in tree.now i) c pulse cells.old cells.new result }
 {
-    let e = put_expr(cells, known, i, c);
+    let e = put_expr(cells, tree, words, i, c);
     put(cells, e.cell, 36, 0, pulse, e.wire);
     put(cells, e.cell + 1, 37, 0, pulse, e.wire);
     e.cell
 }
 
-// A tick's delay cell, which is its finish.
+// A tick's delay cell, which is its finish. A functional netlist's is a function of its own: one for both would be longer, since their places differ.
 fn put_tick(cells: &mut [u8], at: Place, delay: u8) -> Place
     requires { (at.delay < 627) × (6 * at.delay + 6 ≤ length cells.old) }
     ensures cells { cells.new ≡ write at.delay (cell 34 delay at.wire 0 ∷ []) cells.old }
@@ -147,20 +168,19 @@ fn put_tick(cells: &mut [u8], at: Place, delay: u8) -> Place
     }
 }
 
-// An assignment's delay cells, the second fed by the first, and its marks; its walk ends below a cell.
+// An assignment's delay cells, the second fed by the first, and its marks, where its walk has been put in.
 fn put_delays(
     cells: &mut [u8],
     marks: &mut [u16; 800],
     at: Place,
     delay: u8,
     own: Assigned,
-    next: u16,
     pulse: u8,
 ) -> Place
     requires { (6 * (at.delay + 2) ≤ length cells.old) × (length cells.old ≤ 3762) × (at.mark + 4 ≤ 800) }
     ensures cells { cells.new ≡ write at.delay (cell 34 delay at.wire 0 ∷ cell 34 pulse at.delay 0 ∷ []) cells.old }
     ensures marks { marks.new ≡ sets marks.old at.mark (own.variable ∷ at.delay ∷ own.data ∷ own.address ∷ []) }
-    ensures place { result ≡ place (at.delay + 1) (at.delay + 2) next (at.mark + 4) at.out }
+    ensures place { result ≡ place (at.delay + 1) (at.delay + 2) at.cell (at.mark + 4) at.out }
 {
     put(cells, at.delay, 34, delay, at.wire, 0);
     put(cells, at.delay + 1, 34, pulse, at.delay, 0);
@@ -169,32 +189,35 @@ fn put_delays(
     Place {
         wire: at.delay + 1,
         delay: at.delay + 2,
-        cell: next,
         mark: k + 4,
         ..at
     }
 }
 
-// Expression, kind 41 on the first delay. A variable has no address: its mark is 0, and never read.
+// Expression, kind 41 on the first delay. A variable has no address: its mark is 0, as in definition `marks_of`, which holds
+// the four, and no ors read it, since those of addresses begin at variable 16.
 fn put_assign(
     cells: &mut [u8],
     marks: &mut [u16; 800],
     known: &Known<'_>,
-    first: usize,
+    parent: Parent,
     at: Place,
-    node: Node,
 ) -> Place
-    requires { IsLaid known.now.tree × Ready known.now.memory (assign node.delay node.n (expr_in known.now.tree first)) at (length cells.old) }
-    ensures { (F : ℕ → ℕ) → Done known.now.pulse known.now.memory F (assign node.delay node.n (expr_in known.now.tree first)) at cells.old cells.new marks.old marks.new result }
+    requires { IsLaid known.now.tree × Ready known.now.words.first (assign parent.node.delay parent.node.n (expr_in known.now.tree parent.first)) at (length cells.old) }
+    ensures { (F : ℕ → ℕ) → Done known.now.pulse known.now.words.first F (assign parent.node.delay parent.node.n (expr_in known.now.tree parent.first)) at cells.old cells.new marks.old marks.new result }
 {
-    let e = put_expr(cells, known, first, at.cell);
+    let e = put_expr(cells, &known.tree, &known.words, parent.first, at.cell);
     put(cells, e.cell, 41, 0, at.delay, e.wire);
     let own = Assigned {
-        variable: node.n,
+        variable: parent.node.n,
         data: e.cell,
         address: 0,
     };
-    put_delays(cells, marks, at, node.delay, own, e.cell + 1, known.pulse)
+    let walked = Place {
+        cell: e.cell + 1,
+        ..at
+    };
+    put_delays(cells, marks, walked, parent.node.delay, own, known.pulse)
 }
 
 // Index, value, then kind 41 of the value and of the index.
@@ -202,25 +225,27 @@ fn put_element(
     cells: &mut [u8],
     marks: &mut [u16; 800],
     known: &Known<'_>,
-    first: usize,
-    second: usize,
+    parent: Parent,
     at: Place,
-    node: Node,
 ) -> Place
-    requires { IsLaid known.now.tree × Ready known.now.memory (assign_elem node.delay node.n (expr_in known.now.tree first) (expr_in known.now.tree second)) at (length cells.old) }
-    ensures { (F : ℕ → ℕ) → Done known.now.pulse known.now.memory F (assign_elem node.delay node.n (expr_in known.now.tree first) (expr_in known.now.tree second)) at cells.old cells.new marks.old marks.new result }
+    requires { IsLaid known.now.tree × Ready known.now.words.first (assign_elem parent.node.delay parent.node.n (expr_in known.now.tree parent.first) (expr_in known.now.tree parent.second)) at (length cells.old) }
+    ensures { (F : ℕ → ℕ) → Done known.now.pulse known.now.words.first F (assign_elem parent.node.delay parent.node.n (expr_in known.now.tree parent.first) (expr_in known.now.tree parent.second)) at cells.old cells.new marks.old marks.new result }
 {
-    let index = put_expr(cells, known, first, at.cell);
-    let value = put_expr(cells, known, second, index.cell);
+    let index = put_expr(cells, &known.tree, &known.words, parent.first, at.cell);
+    let value = put_expr(cells, &known.tree, &known.words, parent.second, index.cell);
     let address = value.cell + 1;
     put(cells, value.cell, 41, 0, at.delay, value.wire);
     put(cells, address, 41, 0, at.delay, index.wire);
     let own = Assigned {
-        variable: 16 + node.n,
+        variable: 16 + parent.node.n,
         data: value.cell,
         address,
     };
-    put_delays(cells, marks, at, node.delay, own, address + 1, known.pulse)
+    let walked = Place {
+        cell: address + 1,
+        ..at
+    };
+    put_delays(cells, marks, walked, parent.node.delay, own, known.pulse)
 }
 
 // An exit's start waits for the end of its loop; its finish is ground.
@@ -243,20 +268,11 @@ fn put_exits(cells: &mut [u8], outs: &[u16; 200], first: usize, end: usize, n: u
     requires { ExitsReady outs.now first end n (length cells.old) }
     ensures { ExitsJoined n (waiting outs.now first end) cells.old cells.new result }
 {
-    if end <= first {
-        return Word { wire: 1, cell: n };
+    let mut chain = Chain::new(35, n);
+    for start in &outs[first..end] {
+        chain.join(cells, *start);
     }
-    let mut so_far = outs[first];
-    let mut next = n;
-    for start in &outs[first + 1..end] {
-        put(cells, next, 35, 0, so_far, *start);
-        so_far = next;
-        next += 1;
-    }
-    Word {
-        wire: so_far,
-        cell: next,
-    }
+    chain.end(1)
 }
 
 // A call: its delay cell, kind 39 of that and the body's finish, which is the call's own, and its marks, of which the variable is 20 and the
@@ -273,7 +289,7 @@ fn put_call(
     ensures marks { marks.new ≡ sets marks.old at.mark ((20 + node.n) ∷ at.delay ∷ 0 ∷ 0 ∷ []) }
     ensures place { result ≡ place at.cell (at.delay + 1) (at.cell + 1) (at.mark + 4) at.out }
 {
-    let p = node.n as usize;
+    let p = usize::from(node.n);
     put(cells, at.delay, 34, node.delay, at.wire, 0);
     put(cells, at.cell, 39, 0, at.delay, known.finishes[p]);
     let k = at.mark;
@@ -297,8 +313,8 @@ pub fn put_stmt(
     i: usize,
     at: Place,
 ) -> Place
-    requires { IsLaid known.now.tree × Ready known.now.memory (stmt_in known.now.tree i) at (length cells.old) × (length outs.old ≡ 200) }
-    ensures done { Done known.now.pulse known.now.memory (finish_in known.now.finishes) (stmt_in known.now.tree i) at cells.old cells.new marks.old marks.new result }
+    requires { IsLaid known.now.tree × Ready known.now.words.first (stmt_in known.now.tree i) at (length cells.old) × (length outs.old ≡ 200) }
+    ensures done { Done known.now.pulse known.now.words.first (finish_in known.now.finishes) (stmt_in known.now.tree i) at cells.old cells.new marks.old marks.new result }
     ensures outs { Opened (stmt_in known.now.tree i) at outs.old outs.new }
 {
     let node = crate::nodes::stmt_node(known.tree.program, i);
@@ -309,63 +325,64 @@ pub fn put_stmt(
     if kind == 17 {
         return put_tick(cells, at, node.delay);
     }
-    let d = node.delay;
-    let i1 = i + 1;
-    let i2 = known.tree.next(i1);
+    let first = i + 1;
+    let second = known.tree.next(first);
+    let third = known.tree.next(second);
+    let parent = Parent {
+        node,
+        first,
+        second,
+        third,
+    };
     match kind {
-        18 => put_assign(cells, marks, known, i1, at, node),
-        19 => put_seq(cells, marks, outs, known, i1, i2, at),
-        20 => put_par(cells, marks, outs, known, i1, i2, at),
-        21 => {
-            let i3 = known.tree.next(i2);
-            put_if(cells, marks, outs, known, i1, i2, i3, at, d)
-        }
-        22 => put_while(cells, marks, outs, known, i1, i2, at, d),
-        24 => put_element(cells, marks, known, i1, i2, at, node),
-        25 => put_loop(cells, marks, outs, known, i1, at, d),
+        18 => put_assign(cells, marks, known, parent, at),
+        19 => put_seq(cells, marks, outs, known, parent, at),
+        20 => put_par(cells, marks, outs, known, parent, at),
+        21 => put_if(cells, marks, outs, known, parent, at),
+        22 => put_while(cells, marks, outs, known, parent, at),
+        24 => put_element(cells, marks, known, parent, at),
+        25 => put_loop(cells, marks, outs, known, parent, at),
         26 => put_exit(outs, at),
         27 => put_call(cells, marks, known, at, node),
-        _ => put_repeat(cells, marks, outs, known, i1, i2, at, d),
+        _ => put_repeat(cells, marks, outs, known, parent, at),
     }
 }
 
-// Q starts with P's finish.
+// Q starts with P's finish. A functional netlist's has the same two calls, of another walk: one for both would have to be lent the walk.
 #[cycle(put_if_put_loop_put_par_put_repeat_put_seq_put_stmt_put_while)]
 fn put_seq(
     cells: &mut [u8],
     marks: &mut [u16; 800],
     outs: &mut [u16; 200],
     known: &Known<'_>,
-    first: usize,
-    second: usize,
+    parent: Parent,
     at: Place,
 ) -> Place
-    requires { IsLaid known.now.tree × Ready known.now.memory (seq (stmt_in known.now.tree first) (stmt_in known.now.tree second)) at (length cells.old) × (first ≤ second) × (length outs.old ≡ 200) }
-    ensures done { Done known.now.pulse known.now.memory (finish_in known.now.finishes) (seq (stmt_in known.now.tree first) (stmt_in known.now.tree second)) at cells.old cells.new marks.old marks.new result }
-    ensures outs { Opened (seq (stmt_in known.now.tree first) (stmt_in known.now.tree second)) at outs.old outs.new }
+    requires { IsLaid known.now.tree × Ready known.now.words.first (seq (stmt_in known.now.tree parent.first) (stmt_in known.now.tree parent.second)) at (length cells.old) × (parent.first ≤ parent.second) × (length outs.old ≡ 200) }
+    ensures done { Done known.now.pulse known.now.words.first (finish_in known.now.finishes) (seq (stmt_in known.now.tree parent.first) (stmt_in known.now.tree parent.second)) at cells.old cells.new marks.old marks.new result }
+    ensures outs { Opened (seq (stmt_in known.now.tree parent.first) (stmt_in known.now.tree parent.second)) at outs.old outs.new }
 {
-    let p = put_stmt(cells, marks, outs, known, first, at);
-    put_stmt(cells, marks, outs, known, second, p)
+    let p = put_stmt(cells, marks, outs, known, parent.first, at);
+    put_stmt(cells, marks, outs, known, parent.second, p)
 }
 
-// P, Q, 38.
+// P, Q, 38. In a functional netlist the words of both are joined too, so it is not this function.
 #[cycle(put_if_put_loop_put_par_put_repeat_put_seq_put_stmt_put_while)]
 fn put_par(
     cells: &mut [u8],
     marks: &mut [u16; 800],
     outs: &mut [u16; 200],
     known: &Known<'_>,
-    first: usize,
-    second: usize,
+    parent: Parent,
     at: Place,
 ) -> Place
-    requires { IsLaid known.now.tree × Ready known.now.memory (par (stmt_in known.now.tree first) (stmt_in known.now.tree second)) at (length cells.old) × (first ≤ second) × (length outs.old ≡ 200) }
-    ensures done { Done known.now.pulse known.now.memory (finish_in known.now.finishes) (par (stmt_in known.now.tree first) (stmt_in known.now.tree second)) at cells.old cells.new marks.old marks.new result }
-    ensures outs { Opened (par (stmt_in known.now.tree first) (stmt_in known.now.tree second)) at outs.old outs.new }
+    requires { IsLaid known.now.tree × Ready known.now.words.first (par (stmt_in known.now.tree parent.first) (stmt_in known.now.tree parent.second)) at (length cells.old) × (parent.first ≤ parent.second) × (length outs.old ≡ 200) }
+    ensures done { Done known.now.pulse known.now.words.first (finish_in known.now.finishes) (par (stmt_in known.now.tree parent.first) (stmt_in known.now.tree parent.second)) at cells.old cells.new marks.old marks.new result }
+    ensures outs { Opened (par (stmt_in known.now.tree parent.first) (stmt_in known.now.tree parent.second)) at outs.old outs.new }
 {
-    let p = put_stmt(cells, marks, outs, known, first, at);
+    let p = put_stmt(cells, marks, outs, known, parent.first, at);
     let to = Place { wire: at.wire, ..p };
-    let q = put_stmt(cells, marks, outs, known, second, to);
+    let q = put_stmt(cells, marks, outs, known, parent.second, to);
     put(cells, q.cell, 38, 0, p.wire, q.wire);
     Place {
         wire: q.cell,
@@ -381,30 +398,34 @@ fn put_if(
     marks: &mut [u16; 800],
     outs: &mut [u16; 200],
     known: &Known<'_>,
-    first: usize,
-    second: usize,
-    third: usize,
+    parent: Parent,
     at: Place,
-    delay: u8,
 ) -> Place
-    requires { IsLaid known.now.tree × Ready known.now.memory (ite delay (expr_in known.now.tree first) (stmt_in known.now.tree second) (stmt_in known.now.tree third)) at (length cells.old) × (second ≤ third) × (length outs.old ≡ 200) }
-    ensures done { Done known.now.pulse known.now.memory (finish_in known.now.finishes) (ite delay (expr_in known.now.tree first) (stmt_in known.now.tree second) (stmt_in known.now.tree third)) at cells.old cells.new marks.old marks.new result }
-    ensures outs { Opened (ite delay (expr_in known.now.tree first) (stmt_in known.now.tree second) (stmt_in known.now.tree third)) at outs.old outs.new }
+    requires { IsLaid known.now.tree × Ready known.now.words.first (ite parent.node.delay (expr_in known.now.tree parent.first) (stmt_in known.now.tree parent.second) (stmt_in known.now.tree parent.third)) at (length cells.old) × (parent.second ≤ parent.third) × (length outs.old ≡ 200) }
+    ensures done { Done known.now.pulse known.now.words.first (finish_in known.now.finishes) (ite parent.node.delay (expr_in known.now.tree parent.first) (stmt_in known.now.tree parent.second) (stmt_in known.now.tree parent.third)) at cells.old cells.new marks.old marks.new result }
+    ensures outs { Opened (ite parent.node.delay (expr_in known.now.tree parent.first) (stmt_in known.now.tree parent.second) (stmt_in known.now.tree parent.third)) at outs.old outs.new }
 {
-    let own = put_own(cells, delay, at.wire, at.delay);
-    let switch = put_switches(cells, known, first, at.cell, own.wire);
+    let own = put_own(cells, parent.node.delay, at.wire, at.delay);
+    let switch = put_switches(
+        cells,
+        &known.tree,
+        &known.words,
+        parent.first,
+        at.cell,
+        own.wire,
+    );
     let when_true = Place {
         wire: switch,
         delay: own.cell,
         cell: switch + 1 + 1,
         ..at
     };
-    let p = put_stmt(cells, marks, outs, known, second, when_true);
+    let p = put_stmt(cells, marks, outs, known, parent.second, when_true);
     let when_false = Place {
         wire: switch + 1,
         ..p
     };
-    let q = put_stmt(cells, marks, outs, known, third, when_false);
+    let q = put_stmt(cells, marks, outs, known, parent.third, when_false);
     put(cells, q.cell, 35, 0, p.wire, q.wire);
     Place {
         wire: q.cell,
@@ -420,25 +441,30 @@ fn put_while(
     marks: &mut [u16; 800],
     outs: &mut [u16; 200],
     known: &Known<'_>,
-    first: usize,
-    second: usize,
+    parent: Parent,
     at: Place,
-    delay: u8,
 ) -> Place
-    requires { IsLaid known.now.tree × Ready known.now.memory (while delay (expr_in known.now.tree first) (stmt_in known.now.tree second)) at (length cells.old) × (length outs.old ≡ 200) }
-    ensures done { Done known.now.pulse known.now.memory (finish_in known.now.finishes) (while delay (expr_in known.now.tree first) (stmt_in known.now.tree second)) at cells.old cells.new marks.old marks.new result }
-    ensures outs { Opened (while delay (expr_in known.now.tree first) (stmt_in known.now.tree second)) at outs.old outs.new }
+    requires { IsLaid known.now.tree × Ready known.now.words.first (while parent.node.delay (expr_in known.now.tree parent.first) (stmt_in known.now.tree parent.second)) at (length cells.old) × (length outs.old ≡ 200) }
+    ensures done { Done known.now.pulse known.now.words.first (finish_in known.now.finishes) (while parent.node.delay (expr_in known.now.tree parent.first) (stmt_in known.now.tree parent.second)) at cells.old cells.new marks.old marks.new result }
+    ensures outs { Opened (while parent.node.delay (expr_in known.now.tree parent.first) (stmt_in known.now.tree parent.second)) at outs.old outs.new }
 {
-    let switch = put_switches(cells, known, first, at.cell, at.delay);
+    let switch = put_switches(
+        cells,
+        &known.tree,
+        &known.words,
+        parent.first,
+        at.cell,
+        at.delay,
+    );
     let body = Place {
         wire: switch,
         delay: at.delay + 1,
         cell: switch + 1 + 1,
         ..at
     };
-    let p = put_stmt(cells, marks, outs, known, second, body);
+    let p = put_stmt(cells, marks, outs, known, parent.second, body);
     put(cells, p.cell, 35, 0, at.wire, p.wire);
-    put(cells, at.delay, 34, delay, p.cell, 0);
+    put(cells, at.delay, 34, parent.node.delay, p.cell, 0);
     Place {
         wire: switch + 1,
         cell: p.cell + 1,
@@ -453,16 +479,21 @@ fn put_repeat(
     marks: &mut [u16; 800],
     outs: &mut [u16; 200],
     known: &Known<'_>,
-    first: usize,
-    second: usize,
+    parent: Parent,
     at: Place,
-    delay: u8,
 ) -> Place
-    requires { IsLaid known.now.tree × Ready known.now.memory (repeat delay (expr_in known.now.tree first) (stmt_in known.now.tree second)) at (length cells.old) × (length outs.old ≡ 200) }
-    ensures done { Done known.now.pulse known.now.memory (finish_in known.now.finishes) (repeat delay (expr_in known.now.tree first) (stmt_in known.now.tree second)) at cells.old cells.new marks.old marks.new result }
-    ensures outs { Opened (repeat delay (expr_in known.now.tree first) (stmt_in known.now.tree second)) at outs.old outs.new }
+    requires { IsLaid known.now.tree × Ready known.now.words.first (repeat parent.node.delay (expr_in known.now.tree parent.first) (stmt_in known.now.tree parent.second)) at (length cells.old) × (length outs.old ≡ 200) }
+    ensures done { Done known.now.pulse known.now.words.first (finish_in known.now.finishes) (repeat parent.node.delay (expr_in known.now.tree parent.first) (stmt_in known.now.tree parent.second)) at cells.old cells.new marks.old marks.new result }
+    ensures outs { Opened (repeat parent.node.delay (expr_in known.now.tree parent.first) (stmt_in known.now.tree parent.second)) at outs.old outs.new }
 {
-    let switch = put_switches(cells, known, first, at.cell, at.delay);
+    let switch = put_switches(
+        cells,
+        &known.tree,
+        &known.words,
+        parent.first,
+        at.cell,
+        at.delay,
+    );
     let start = switch + 1 + 1;
     put(cells, start, 35, 0, at.wire, switch + 1);
     let body = Place {
@@ -471,8 +502,8 @@ fn put_repeat(
         cell: start + 1,
         ..at
     };
-    let p = put_stmt(cells, marks, outs, known, second, body);
-    put(cells, at.delay, 34, delay, p.wire, 0);
+    let p = put_stmt(cells, marks, outs, known, parent.second, body);
+    put(cells, at.delay, 34, parent.node.delay, p.wire, 0);
     Place { wire: switch, ..p }
 }
 
@@ -483,13 +514,12 @@ fn put_loop(
     marks: &mut [u16; 800],
     outs: &mut [u16; 200],
     known: &Known<'_>,
-    first: usize,
+    parent: Parent,
     at: Place,
-    delay: u8,
 ) -> Place
-    requires { IsLaid known.now.tree × Ready known.now.memory (loop delay (stmt_in known.now.tree first)) at (length cells.old) × (length outs.old ≡ 200) }
-    ensures done { Done known.now.pulse known.now.memory (finish_in known.now.finishes) (loop delay (stmt_in known.now.tree first)) at cells.old cells.new marks.old marks.new result }
-    ensures outs { Opened (loop delay (stmt_in known.now.tree first)) at outs.old outs.new }
+    requires { IsLaid known.now.tree × Ready known.now.words.first (loop parent.node.delay (stmt_in known.now.tree parent.first)) at (length cells.old) × (length outs.old ≡ 200) }
+    ensures done { Done known.now.pulse known.now.words.first (finish_in known.now.finishes) (loop parent.node.delay (stmt_in known.now.tree parent.first)) at cells.old cells.new marks.old marks.new result }
+    ensures outs { Opened (loop parent.node.delay (stmt_in known.now.tree parent.first)) at outs.old outs.new }
 {
     put(cells, at.cell, 35, 0, at.wire, at.delay);
     let body = Place {
@@ -498,8 +528,8 @@ fn put_loop(
         cell: at.cell + 1,
         ..at
     };
-    let round = put_stmt(cells, marks, outs, known, first, body);
-    put(cells, at.delay, 34, delay, round.wire, 0);
+    let round = put_stmt(cells, marks, outs, known, parent.first, body);
+    put(cells, at.delay, 34, parent.node.delay, round.wire, 0);
     let joined = put_exits(cells, outs, at.out, round.out, round.cell);
     Place {
         wire: joined.wire,

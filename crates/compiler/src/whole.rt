@@ -5,13 +5,15 @@
 // has, since no walk has more than 400.
 ghost use Rattle.std.specs.Prelude.{◌≡◌, List, [], ℕ, ◌≤◌, length};
 ghost use Rattle.model.specs.Program.{Program, program_of};
-ghost use Rattle.model.specs.Numbering.{Source, idle_start, calls_of, memory_at};
+ghost use Rattle.model.specs.Numbering.{Source, head_cells, idle_start, calls_of, memory_at};
+ghost use Rattle.compiler.specs.Writes.{write};
 ghost use Rattle.compiler.specs.Walk.{finish_in};
 ghost use Rattle.compiler.specs.Nodes.{IsLaid, stmt_in};
-ghost use Rattle.compiler.specs.Whole.{Given, callers_of, Told, RootReady, RootDone, RootsReady, RootsDone, Put, FirstPut, LastPut, Clocked, Walked, Closing, Closable, Made};
+ghost use Rattle.compiler.specs.Whole.{Given, callers_in, Calls, RootReady, RootDone, RootsReady, RootsDone, Put, FirstPut, LastPut, Clocked, Walked, Closing, Closable, Made};
 
 use crate::ors::Joint;
 use crate::walk::{Known, Place};
+use crate::words::Memories;
 use program::nodes::Tree;
 
 // A program, how many procedures it has, and the length of a pulse.
@@ -22,7 +24,8 @@ pub struct Input<'a> {
     pub pulse: u8,
 }
 
-// What the first walk and the clock ors leave: each variable's clock wire, the first memory, and how many assignments and calls there are.
+// What the first walk and the clock ors leave: each variable's clock wire, the first memory, and how many assignments and calls there are, whose marks
+// lie in a list of a fixed size (crate::walk::Place).
 #[derive(Clone, Copy)]
 pub struct Clocks {
     pub wires: [u16; 20],
@@ -57,21 +60,17 @@ pub struct Root {
     pub idle: u16,
 }
 
-// The 35s that join the delays of a root's callers, and the root's own walk. The callers are told by the marks that a first walk left of `count`
-// assignments and calls.
+// The 35s that join the delays of a root's callers, and the root's own walk. The callers are told by the marks that a first walk left.
 fn put_root(
     cells: &mut [u8],
     marks: &mut [u16; 800],
-    outs: &mut [u16; 200],
-    callers: &[u16; 800],
-    count: usize,
+    callers: &[u16],
     known: &Known<'_>,
     root: Root,
     at: Place,
 ) -> Place
-    requires { IsLaid known.now.tree × RootReady known.now.memory (callers_of callers.now count root.number) count (stmt_in known.now.tree root.node) at (length cells.old) × (length outs.old ≡ 200) × (root.number ≤ 8) }
-    ensures done { RootDone known.now.pulse known.now.memory (finish_in known.now.finishes) root.idle (callers_of callers.now count root.number) (stmt_in known.now.tree root.node) at cells.old cells.new marks.old marks.new result }
-    ensures outs { length outs.new ≡ 200 }
+    requires { IsLaid known.now.tree × RootReady known.now.words.first (callers_in callers.now root.number) (stmt_in known.now.tree root.node) at (length cells.old) × (root.number ≤ 8) }
+    ensures { RootDone known.now.pulse known.now.words.first (finish_in known.now.finishes) root.idle (callers_in callers.now root.number) (stmt_in known.now.tree root.node) at cells.old cells.new marks.old marks.new result }
 {
     let joint = Joint {
         kind: 35,
@@ -79,14 +78,15 @@ fn put_root(
         mark: 1,
         first: 0,
     };
-    let start = crate::ors::put_chain(cells, callers, count, joint, 20 + root.number, at.cell);
+    let start = crate::ors::put_chain(cells, callers, joint, 20 + root.number, at.cell);
     let from = Place {
         wire: start.wire,
         cell: start.cell,
         out: 0,
         ..at
     };
-    crate::walk::put_stmt(cells, marks, outs, known, root.node, from)
+    let mut outs = [0u16; 200];
+    crate::walk::put_stmt(cells, marks, &mut outs, known, root.node, from)
 }
 
 // The start of a root that nobody calls: ground, and of the main program, the last root, cell 0.
@@ -97,22 +97,20 @@ fn idle_start(root: usize, procedures: usize) -> u16
 }
 
 // The walks of all roots, the bodies' and then the main one, where the first memory is `memory`. A root's finish is known to those after it, and
-// no root is called by one before it.
+// no root is called by one before it. r is a root's number, and decides its node, its finish's place and whether its start is idle.
 fn put_roots(
     cells: &mut [u8],
     marks: &mut [u16; 800],
-    callers: &[u16; 800],
-    count: usize,
+    callers: &[u16],
     input: &Input<'_>,
     memory: u16,
 ) -> Place
-    requires { RootsReady input.now.pulse input.now.procedures input.now.tree.program.now input.now.tree.ends.now callers.now count memory (length cells.old) }
-    ensures { (cs : List Source) → Told cs callers.now count → RootsDone (program_of input.now.pulse input.now.procedures input.now.tree.program.now) cs memory cells.old cells.new marks.old marks.new result }
+    requires { RootsReady input.now.pulse input.now.procedures input.now.tree.program.now input.now.tree.ends.now callers.now memory (length cells.old) }
+    ensures { (cs : List Source) → Calls cs callers.now → RootsDone (program_of input.now.pulse input.now.procedures input.now.tree.program.now) cs memory cells.old cells.new marks.old marks.new result }
 {
-    let mut outs = [0u16; 200];
     let mut known = Known {
         tree: input.tree,
-        memory,
+        words: Memories { first: memory },
         pulse: input.pulse,
         finishes: [0; 9],
     };
@@ -129,7 +127,7 @@ fn put_roots(
             node: input.tree.skip(0, r),
             idle: idle_start(r, input.procedures),
         };
-        at = put_root(cells, marks, &mut outs, callers, count, &known, root, at);
+        at = put_root(cells, marks, callers, &known, root, at);
         known.finishes[r] = at.wire;
     }
     at
@@ -147,7 +145,7 @@ pub fn join_clocks(cells: &mut [u8], marks: &[u16; 800], end: Place) -> Clocks
         mark: 1,
         first: 0,
     };
-    let joined = crate::ors::put_ors(cells, marks, count, joint, end.delay);
+    let joined = crate::ors::put_ors(cells, &marks[..4 * count], joint, end.delay);
     let wires = joined.wires;
     Clocks {
         wires,
@@ -161,13 +159,14 @@ pub fn join_words(cells: &mut [u8], marks: &[u16; 800], end: Place) -> Finished
     requires { LastPut cells.old marks.now end }
     ensures { (S : Program) (before ms : List ℕ) → Put S (calls_of S) (memory_at S) before cells.old ms marks.now end → Walked S before cells.new result }
 {
+    let own = &marks[..4 * (end.mark / 4)];
     let of_data = Joint {
         kind: 7,
         none: 2,
         mark: 2,
         first: 0,
     };
-    let joined = crate::ors::put_ors(cells, marks, end.mark / 4, of_data, end.cell);
+    let joined = crate::ors::put_ors(cells, own, of_data, end.cell);
     let wires = joined.wires;
     let of_address = Joint {
         kind: 7,
@@ -175,7 +174,7 @@ pub fn join_words(cells: &mut [u8], marks: &[u16; 800], end: Place) -> Finished
         mark: 3,
         first: 16,
     };
-    let addressed = crate::ors::put_ors(cells, marks, end.mark / 4, of_address, joined.next);
+    let addressed = crate::ors::put_ors(cells, own, of_address, joined.next);
     let addresses = addressed.wires;
     Finished {
         wires,
@@ -184,6 +183,16 @@ pub fn join_words(cells: &mut [u8], marks: &[u16; 800], end: Place) -> Finished
         finish: end.wire,
         ors: end.cell,
     }
+}
+
+// The first three cells: the start, ground and a 0.
+pub fn put_head(cells: &mut [u8])
+    requires { 18 ≤ length cells.old }
+    ensures { cells.new ≡ write 0 head_cells cells.old }
+{
+    crate::walk::put(cells, 0, 32, 0, 0, 0);
+    crate::walk::put(cells, 1, 33, 0, 0, 0);
+    crate::walk::put(cells, 2, 1, 0, 0, 0);
 }
 
 // The memories, the arrays and the first three cells.
@@ -203,9 +212,7 @@ pub fn close(cells: &mut [u8], clocks: Clocks, walked: Finished) -> Netlist
         &address_wires,
         memory + 16,
     );
-    crate::walk::put(cells, 0, 32, 0, 0, 0);
-    crate::walk::put(cells, 1, 33, 0, 0, 0);
-    crate::walk::put(cells, 2, 1, 0, 0, 0);
+    put_head(cells);
     Netlist {
         count: walked.count,
         finish: walked.finish,
@@ -218,24 +225,17 @@ fn put_clocks(cells: &mut [u8], callers: &mut [u16; 800], input: &Input<'_>) -> 
     requires { Given input.now.pulse input.now.procedures input.now.tree.program.now input.now.tree.ends.now (length cells.old) × (length callers.old ≡ 800) }
     ensures { Clocked (program_of input.now.pulse input.now.procedures input.now.tree.program.now) callers.new cells.new result }
 {
-    let nobody = [0u16; 800];
-    let first = put_roots(cells, callers, &nobody, 0, input, 179);
+    let first = put_roots(cells, callers, &[], input, 179);
     join_clocks(cells, callers, first)
 }
 
 // The second walk, with the callers that the first told: the delay cells and the walks; then the data ors and the address ors by its marks.
-fn put_walk(
-    cells: &mut [u8],
-    callers: &[u16; 800],
-    count: usize,
-    input: &Input<'_>,
-    memory: u16,
-) -> Finished
-    requires { Given input.now.pulse input.now.procedures input.now.tree.program.now input.now.tree.ends.now (length cells.old) × (memory ≡ memory_at (program_of input.now.pulse input.now.procedures input.now.tree.program.now)) × Told (calls_of (program_of input.now.pulse input.now.procedures input.now.tree.program.now)) callers.now count }
+fn put_walk(cells: &mut [u8], callers: &[u16], input: &Input<'_>, memory: u16) -> Finished
+    requires { Given input.now.pulse input.now.procedures input.now.tree.program.now input.now.tree.ends.now (length cells.old) × (memory ≡ memory_at (program_of input.now.pulse input.now.procedures input.now.tree.program.now)) × Calls (calls_of (program_of input.now.pulse input.now.procedures input.now.tree.program.now)) callers.now }
     ensures { Walked (program_of input.now.pulse input.now.procedures input.now.tree.program.now) cells.old cells.new result }
 {
     let mut marks = [0u16; 800];
-    let end = put_roots(cells, &mut marks, callers, count, input, memory);
+    let end = put_roots(cells, &mut marks, callers, input, memory);
     join_words(cells, &marks, end)
 }
 
@@ -257,6 +257,7 @@ pub fn put_netlist(
     };
     let mut callers = [0u16; 800];
     let clocks = put_clocks(cells, &mut callers, &input);
-    let walked = put_walk(cells, &callers, clocks.count, &input, clocks.memory);
+    let told = &callers[..4 * clocks.count];
+    let walked = put_walk(cells, told, &input, clocks.memory);
     close(cells, clocks, walked)
 }

@@ -4,12 +4,12 @@ use mathlib.Core.Bool.{Bool, true, false, ◌||◌}
 use mathlib.Core.List.{List, [], ◌∷◌, ◌++◌}
 use Prim.Native.Nat.{ℕ, zero, suc, ◌+◌, ◌-◌, ◌*◌, ◌/◌, ◌%◌, ◌<◌, ◌≤◌, ◌^◌, max}
 use native.Mathlib.Omega.{arith}
-use borrow.Author.Tests.{eqb-true, eqb-false}
+use native.Mathlib.Decide.{ℕ_discrete}
 use lib.Dec.{eqb, eqb-zero-suc, eqb-suc-zero, eqb-suc-suc}
 use lib.Count.{ones, ones_step}
 use lib.Pow.{pow-lt}
 use lib.Bits.{bit_or, or_step}
-use native.Mathlib.Nat.{not-suc-le-zero, le_of_suc-le-suc, pow-suc}
+use native.Mathlib.Nat.{div-one, div-div-eq-div-mul, not-suc-le-zero, le_of_suc-le-suc, pow-suc}
 use lib.ListN.{length, get_or, set, length-set, replicate}
 use lib.Seq.{get_or-set_same, get_or-set_other}
 use Rattle.model.specs.declared.Cell.{Cell}
@@ -20,7 +20,7 @@ use Rattle.model.specs.Functional.{rows_of, each, among, rank, many, placed, cho
 use Rattle.laws.specs.Refusals.Laws.{by_bool}
 use Rattle.laws.specs.Functional.Count.{each-len}
 use Rattle.compiler.specs.Writes.{write}
-use Rattle.compiler.proofs.Writes.{write-none, write-append, write_two}
+use Rattle.compiler.proofs.Writes.{write-none, write-append}
 use Rattle.functional.specs.Sets.{has, Agrees}
 
 -- Bits -----------------------------------------------------------------------------------------------------------------------------------
@@ -29,10 +29,6 @@ use Rattle.functional.specs.Sets.{has, Agrees}
 unfoldable pub later : ℕ → ℕ → ℕ
 later zero n = n
 later (suc x) n = later x n / 2
-
-pub later-none : (n : ℕ) → n ≡ later 0 n
-unfolding later
-later-none n = refl
 
 pub later-next : (x n : ℕ) {r : ℕ} → r ≡ later x n → r / 2 ≡ later (x + 1) n
 unfolding later
@@ -47,6 +43,15 @@ pub has-later : (x n : ℕ) {r : ℕ} → r ≡ later x n → has n x ≡ eqb (r
 unfolding has
 has-later x n e = let z : x + 0 ≡ x = omega arith in rw e (rw z at (sym (has-shift x n 0)))
 
+-- by a power of two
+later-power : (x n : ℕ) → later x n ≡ n / 2 ^ x
+unfolding later
+later-power zero n = sym (div-one n)
+later-power (suc x) n = ap (λ (m : ℕ). m / 2) (later-power x n) ∙ div-div-eq-div-mul n (2 ^ x) 2 ∙ ap (λ (p : ℕ). n / p) (sym (pow-suc 2 x))
+
+pub has-power : (n x : ℕ) → has n x ≡ eqb (n / 2 ^ x % 2) 1
+has-power n x = has-later x n (sym (later-power x n))
+
 -- a last bit adds itself
 digit : (r A : ℕ) → r < 2 → pick (eqb r 1) (1 + A) A ≡ r + A
 digit zero A h = omega arith
@@ -58,7 +63,15 @@ among_next : (b : ℕ → Bool) (x : ℕ) → x < 16
 unfolding among
 among_next b x h = let e : 16 - x ≡ suc (16 - (x + 1)) = omega arith in rw e refl
 
-pub among-bit : (n x : ℕ) {r : ℕ} → x < 16 → r ≡ later x n → among (has n) x (16 - x) ≡ r % 2 + among (has n) (x + 1) (16 - (x + 1))
+-- of those from x on, with x and without it
+module _ (b : ℕ → Bool) (x : ℕ) (h : x < 16) where
+  pub among-in : b x ≡ true → among b x (16 - x) ≡ 1 + among b (x + 1) (16 - (x + 1))
+  among-in e = among_next b x h ∙ rw e refl
+
+  pub among-out : b x ≡ false → among b x (16 - x) ≡ among b (x + 1) (16 - (x + 1))
+  among-out e = among_next b x h ∙ rw e refl
+
+among-bit : (n x : ℕ) {r : ℕ} → x < 16 → r ≡ later x n → among (has n) x (16 - x) ≡ r % 2 + among (has n) (x + 1) (16 - (x + 1))
 among-bit n x {r} h e =
     let A = among (has n) (x + 1) (16 - (x + 1)) in
     among_next (has n) x h ∙ rw (has-later x n e) (digit (r % 2) A (omega arith))
@@ -95,38 +108,43 @@ among-last b y (suc n) =
     let z : y + 1 + n ≡ y + suc n = omega arith in
     rw z at (ap (λ (A : ℕ). pick (b y) (1 + A) A) (among-last b (y + 1) n) ∙ swap (b y) (b (y + 1 + n)) (among b (y + 1) n))
 
-pub rank-bit : (n x : ℕ) {r : ℕ} → r ≡ later x n → rank (has n) (x + 1) ≡ rank (has n) x + r % 2
-rank-bit n x {r} e =
-    let z : x + 1 ≡ suc x = omega arith in
-    let z' : 0 + x ≡ x = omega arith in
-    let l = rw z' at (among-last (has n) 0 x) in
-    let d = digit (r % 2) (rank (has n) x) (omega arith) in
-    let f = rw (has-later x n e) at l in
-    rw z (omega (arith, f, d))
+module _ (b : ℕ → Bool) (x : ℕ) where
+  rank_next : rank b (x + 1) ≡ pick (b x) (1 + rank b x) (rank b x)
+  rank_next = let z : x + 1 ≡ suc x = omega arith in let z' : 0 + x ≡ x = omega arith in rw z (rw z' at (among-last b 0 x))
+
+  pub rank-in : b x ≡ true → rank b (x + 1) ≡ 1 + rank b x
+  rank-in e = rank_next ∙ rw e refl
+
+  pub rank-out : b x ≡ false → rank b (x + 1) ≡ rank b x
+  rank-out e = rank_next ∙ rw e refl
 
 -- Arrays that are filled -----------------------------------------------------------------------------------------------------------------
 
--- l has the first x of F
-pub record Upto (F : Wires) (l : List ℕ) (x : ℕ) : Type 0 where
+-- l has the first x of F, and those of G from there on
+pub record Upto (F G : Wires) (l : List ℕ) (x : ℕ) : Type 0 where
   pub long : length l ≡ 16
   pub most : x ≤ 16
   pub filled : (y : ℕ) → y < x → get_or l y 0 ≡ F y
+  pub left : (y : ℕ) → x ≤ y → get_or l y 0 ≡ G y
 
-pub upto-none : (F : Wires) (l : List ℕ) → length l ≡ 16 → Upto F l 0
-upto-none F l e = record { long = e; most = omega arith; filled = λ y h. absurd (omega arith) }
+pub upto-none : (F G : Wires) (l : List ℕ) → length l ≡ 16 → ((y : ℕ) → get_or l y 0 ≡ G y) → Upto F G l 0
+upto-none F G l e left = record { long = e; most = omega arith; filled = λ y h. absurd (omega arith); left = λ y h. left y }
 
-pub upto_next : (F : Wires) (l : List ℕ) (x v : ℕ) → x < 16 → v ≡ F x → Upto F l x → Upto F (set l x v) (x + 1)
-upto_next F l x v h e u =
+pub upto_next : (F G : Wires) (l : List ℕ) (x v : ℕ) → x < 16 → v ≡ F x → Upto F G l x → Upto F G (set l x v) (x + 1)
+upto_next F G l x v h e u =
     record {
       long = length-set l x v ∙ u.long;
       most = omega arith;
-      filled = λ y k. by_bool (eqb y x)
-          (λ z. let q = eqb-true y x z in rw q (get_or-set_same l x v 0 (omega (arith, u.long)) ∙ e))
-          (λ z. let q = eqb-false y x z in get_or-set_other l x y v 0 q ∙ u.filled y (omega (arith, q)));
+      filled = λ y k. go y k (ℕ_discrete y x);
+      left = λ y k. get_or-set_other l x y v 0 (λ q. omega (arith, q)) ∙ u.left y (omega arith);
     }
+  where
+    go : (y : ℕ) → y < x + 1 → Dec (y ≡ x) → get_or (set l x v) y 0 ≡ F y
+    go y k (yes q) = rw q (get_or-set_same l x v 0 (omega (arith, u.long)) ∙ e)
+    go y k (no n) = get_or-set_other l x y v 0 n ∙ u.filled y (omega (arith, n))
 
-pub upto-end : (F : Wires) (l : List ℕ) (x : ℕ) → 16 ≤ x → Upto F l x → Agrees l F
-upto-end F l x h u y k = u.filled y (omega arith)
+pub upto-end : (F G : Wires) (l : List ℕ) (x : ℕ) → 16 ≤ x → Upto F G l x → Agrees l F
+upto-end F G l x h u y k = u.filled y (omega arith)
 
 -- Cells ----------------------------------------------------------------------------------------------------------------------------------
 
@@ -139,18 +157,12 @@ pub rows_of-end : (b : ℕ → Bool) (f : ℕ → Cell) (x k : ℕ) (s : List �
 unfolding rows_of
 rows_of-end b f x k s h = let e : 16 - x ≡ 0 = omega arith in rw e (write-none k s)
 
-module _ (n : ℕ) (f : ℕ → Cell) (x k : ℕ) (s : List ℕ) {r : ℕ} (h : x < 16) (e : r ≡ later x n) where
-  pub rows_in : r % 2 ≡ 1 → write k (rows_of (has n) f x (16 - x)) s ≡ write (k + 1) (rows_of (has n) f (x + 1) (16 - (x + 1))) (write k (f x ∷ []) s)
-  rows_in q =
-      let p : has n x ≡ true = has-later x n e ∙ rw q refl in
-      rw (rows_of-next (has n) f x h, p)
-      (sym (write-append k (k + 1) (f x ∷ []) (rows_of (has n) f (x + 1) (16 - (x + 1))) s refl))
+module _ (b : ℕ → Bool) (f : ℕ → Cell) (x k : ℕ) (s : List ℕ) (h : x < 16) where
+  pub rows_in : b x ≡ true → write k (rows_of b f x (16 - x)) s ≡ write (k + 1) (rows_of b f (x + 1) (16 - (x + 1))) (write k (f x ∷ []) s)
+  rows_in p = rw (rows_of-next b f x h, p) (sym (write-append k (k + 1) (f x ∷ []) (rows_of b f (x + 1) (16 - (x + 1))) s refl))
 
-  pub rows_out : (r % 2 ≡ 1 → ⊥) → write k (rows_of (has n) f x (16 - x)) s ≡ write k (rows_of (has n) f (x + 1) (16 - (x + 1))) s
-  rows_out q =
-      let z : r % 2 ≡ 0 = omega (arith, q) in
-      let p : has n x ≡ false = has-later x n e ∙ rw z refl in
-      rw (rows_of-next (has n) f x h, p) refl
+  pub rows_out : b x ≡ false → write k (rows_of b f x (16 - x)) s ≡ write k (rows_of b f (x + 1) (16 - (x + 1))) s
+  rows_out p = rw (rows_of-next b f x h, p) refl
 
 -- Single sets, and sets of two ------------------------------------------------------------------------------------------------------------
 
@@ -209,11 +221,6 @@ same_at w (suc n) zero h = refl
 same_at w (suc n) (suc y) h = same_at w n y (le_of_suc-le-suc h)
 
 -- Three cells ------------------------------------------------------------------------------------------------------------------------------
-
-pub write-three : (k : ℕ) (x y z : Cell) (s : List ℕ) {m₁ m₂ end : List ℕ} → m₁ ≡ write k (x ∷ []) s → m₂ ≡ write (k + 1) (y ∷ []) m₁
-    → end ≡ write (k + 2) (z ∷ []) m₂ → end ≡ write k (x ∷ y ∷ z ∷ []) s
-write-three k x y z s a b c =
-    c ∙ ap (write (k + 2) (z ∷ [])) (write_two k x y s a b) ∙ write-append k (k + 2) (x ∷ y ∷ []) (z ∷ []) s refl
 
 -- All sixteen ------------------------------------------------------------------------------------------------------------------------------
 

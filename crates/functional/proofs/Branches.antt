@@ -15,13 +15,13 @@ use Rattle.laws.specs.Numbering.Lengths.{e-len}
 use Rattle.laws.specs.Functional.Count.{w-len}
 use Rattle.laws.specs.Numbering.Lengths.{own-len}
 use Rattle.compiler.specs.Writes.{write}
-use Rattle.compiler.specs.Walk.{ExprDone, Owned}
+use Rattle.compiler.specs.Walk.{ExprReady, ExprDone, Owned}
 use Rattle.compiler.proofs.Writes.{write-append, write_two}
 use Rattle.compiler.specs.declared.walk.Word.{Word}
 use Rattle.functional.specs.declared.walk.Place.{Place}
 use Rattle.functional.specs.declared.sets.Wires as declared
 use Rattle.functional.specs.Sets.{has, wired, Agrees, Tells}
-use Rattle.functional.specs.Walk.{plainly, place, ExprReady, Ready, Done, End}
+use Rattle.functional.specs.Walk.{plainly, place, Ready, Done, End}
 use Rattle.functional.proofs.Bits.{choices-same, many-set, placed-set, choices-set}
 
 -- Its own delay ----------------------------------------------------------------------------------------------------------------------------------
@@ -106,7 +106,7 @@ module _ {δ c n : ℕ} {E : Expr} {P Q : Code} (r : Ready (ite δ E P Q) c n) w
   if-room = omega (arith, r.room)
 
   pub if-expr : ExprReady E c n
-  if-expr = record { formed = r.formed.1; basic = r.basic.0; room = omega (arith, if-room); small = r.small }
+  if-expr = record { formed = r.formed.1; room = omega (arith, if-room); small = r.small }
 
   module _ {t : ℕ} (e : t ≡ c + expr_count E + if_delay_count δ) where
     pub if-first : Ready P (t + 1 + 1) n

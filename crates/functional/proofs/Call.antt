@@ -196,3 +196,9 @@ module _ (options : Options) (s : List ℕ) {n : ℕ} (e : check_functional_call
   compile-done lent h end w =
       rw (first-drop 2 (compile_functional_checks options s lent) e, functional-size, le-ltb _ _ h)
       (rw (end, same-statement options s e) refl, w ∙ ap (λ (file : List ℕ). overwrite file lent) (sym (same-file options s e)))
+
+-- the call of an accepted program, with a buffer that is long enough
+pub compile-accepted : (options : Options) (s lent : List ℕ) → check_functional_call options s ≡ Accepted → length (functional_file s) ≤ length lent
+    → Tells (Done (length (functional_file s)) (finish_of (statement_of s))) (overwrite (functional_file s) lent) (compile_functional_call options s lent)
+unfolding compile_functional_call check_functional_call writing
+compile-accepted options s lent e h = rw (first-drop 2 (compile_functional_checks options s lent) e, le-ltb _ _ h) (refl, refl)

@@ -1,7 +1,6 @@
 -- The laws behind the proofs of the functions.
 pub mod Bits
 pub mod Writing
-pub mod Exprs
 pub mod Parts
 pub mod Loops
 pub mod Branches

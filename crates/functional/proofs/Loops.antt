@@ -14,12 +14,12 @@ use Rattle.model.specs.Functional.{each, rank, many, placed, joins_at, choices, 
 use Rattle.laws.specs.Numbering.Lengths.{e-len}
 use Rattle.laws.specs.Functional.Count.{each-len, w-len}
 use Rattle.compiler.specs.Writes.{write}
-use Rattle.compiler.specs.Walk.{Switched}
+use Rattle.compiler.specs.Walk.{SwitchReady, Switched}
 use Rattle.compiler.proofs.Writes.{write-append, write-before}
 use Rattle.functional.specs.declared.walk.Place.{Place}
 use Rattle.functional.specs.declared.sets.Wires as declared
 use Rattle.functional.specs.Sets.{has, wired, Agrees, Tells}
-use Rattle.functional.specs.Walk.{plainly, place, ExprReady, Ready, Done, Round}
+use Rattle.functional.specs.Walk.{plainly, place, Ready, Done, Round}
 use Rattle.functional.proofs.Bits.{each_same, choices-same, many-set, rank-set, each_set, placed-set, choices-set}
 
 -- Latches and loads --------------------------------------------------------------------------------------------------------------------------
@@ -154,8 +154,8 @@ module _ {δ c n : ℕ} {E : Expr} {P : Code} (r : Ready (while δ E P) c n) {k 
   unfolding count inline
   while-room = omega (arith, r.room, e)
 
-  pub while-expr : ExprReady E (c + k + 2) n
-  while-expr = record { formed = r.formed.1; basic = r.basic.0; room = omega (arith, while-room); small = r.small }
+  pub while-switches : SwitchReady E (c + k + 2) n
+  while-switches = record { expr = record { formed = r.formed.1; room = omega (arith, while-room); small = r.small }; room = omega (arith, while-room) }
 
   pub while-body : {t : ℕ} → t ≡ c + k + 2 + expr_count E → Ready P (t + 1 + 1) n
   while-body q = record { formed = r.formed.2; basic = r.basic.1; room = omega (arith, while-room, q); small = r.small }
@@ -250,8 +250,8 @@ module _ {δ c n : ℕ} {E : Expr} {P : Code} (r : Ready (repeat δ E P) c n) {k
   pub repeat-body : Ready P (c + k + 1) n
   repeat-body = record { formed = r.formed.2; basic = r.basic.1; room = omega (arith, repeat-room); small = r.small }
 
-  pub repeat-expr : {q : ℕ} → q ≡ c + k + 1 + count (plainly P) → ExprReady E (q + 1) n
-  repeat-expr h = record { formed = r.formed.1; basic = r.basic.0; room = omega (arith, repeat-room, h); small = r.small }
+  pub repeat-switches : {q : ℕ} → q ≡ c + k + 1 + count (plainly P) → SwitchReady E (q + 1) n
+  repeat-switches h = record { expr = record { formed = r.formed.1; room = omega (arith, repeat-room, h); small = r.small }; room = omega (arith, repeat-room, h) }
 
 pub repeat-done : (δ : ℕ) (E : Expr) (P : Code) (at : Place) (us : Wires) (set n : ℕ) (latches : declared.Wires) {before m₁ m₂ m₃ end : List ℕ} {e : ℕ} {p : Place} {r : ℕ}
     → Agrees at.words.of us

@@ -14,13 +14,13 @@ use Rattle.model.specs.Functional.{count, finish_wire, outs, walk}
 use Rattle.laws.specs.Numbering.Lengths.{e-len}
 use Rattle.laws.specs.Functional.Count.{w-len}
 use Rattle.compiler.specs.Writes.{write}
-use Rattle.compiler.specs.Walk.{ExprDone}
+use Rattle.compiler.specs.Walk.{ExprReady, ExprDone}
 use Rattle.compiler.proofs.Writes.{behind, write-none, write-append}
 use Rattle.compiler.specs.declared.walk.Word.{Word}
 use Rattle.functional.specs.declared.walk.Place.{Place}
 use Rattle.functional.specs.declared.sets.Wires as declared
 use Rattle.functional.specs.Sets.{has, wired, Agrees, Tells}
-use Rattle.functional.specs.Walk.{plainly, place, ExprReady, Ready, Done}
+use Rattle.functional.specs.Walk.{plainly, place, Ready, Done}
 
 -- Nothing, and a tick -----------------------------------------------------------------------------------------------------------------------
 
@@ -44,7 +44,7 @@ tick-done δ same w e = rw e (record { cells = w; wire = refl; cell = refl; word
 module _ {δ x c n : ℕ} {E : Expr} (r : Ready (assign δ x E) c n) where
   pub assign-expr : ExprReady E c n
   unfolding count inline
-  assign-expr = record { formed = r.formed.2; basic = r.basic; room = omega (arith, r.room); small = r.small }
+  assign-expr = record { formed = r.formed.2; room = omega (arith, r.room); small = r.small }
 
   pub assign-room : 6 * (c + expr_count E) + 6 ≤ n
   unfolding count inline

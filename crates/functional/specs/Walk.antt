@@ -1,13 +1,13 @@
 -- What the walk asks, and what it leaves, of an expression and of a statement. Assumes nothing: definitions.
 -- Refusal 28 leaves no call, so what a call stands for is of no account: here it is ok.
 use Rattle.std.specs.Prelude.{◌≡◌, List, [], ◌∷◌, ◌++◌, ℕ, ◌+◌, ◌*◌, ◌≤◌}
-use Rattle.model.specs.Program.{Expr, Code, Stmt, ok, stmt_at, writes}
+use Rattle.model.specs.Program.{Code, Stmt, ok, stmt_at, writes}
 use Rattle.model.specs.Procedures.{inline}
-use Rattle.model.specs.Numbering.{Wires, expr_count}
+use Rattle.model.specs.Numbering.{Wires}
 use Rattle.model.specs.Circuit.{cell}
 use Rattle.model.specs.Functional.{each, rank, many, placed, joins_at, choices, count, finish_wire, outs, walk, netlist_of, finish_of}
 use Rattle.model.specs.NetlistFile.{file_of}
-use Rattle.laws.specs.Program.Fit.{FormedExpr, BasicExpr, Formed, Basic}
+use Rattle.laws.specs.Program.Fit.{Formed, Basic}
 use Rattle.program.specs.Ends.{Laid}
 use Rattle.compiler.specs.Writes.{write}
 use Rattle.functional.specs.declared.walk.Place.{Place}
@@ -38,15 +38,6 @@ pub record Main (s ends : List ℕ) : Type 0 where
 -- the set of the variables that the statement at node i writes
 abbrev pub Writes : List ℕ → ℕ → ℕ → Type 0
 Writes s i set = Tells set (writes (plain_at s i))
-
--- Expressions --------------------------------------------------------------------------------------------------------------------------
-
--- e goes to cell c of a list of n bytes
-pub record ExprReady (e : Expr) (c n : ℕ) : Type 0 where
-  pub formed : FormedExpr e
-  pub basic : BasicExpr e
-  pub room : 6 * (c + expr_count e) ≤ n
-  pub small : n ≤ 42258
 
 -- Statements ---------------------------------------------------------------------------------------------------------------------------
 
@@ -89,10 +80,9 @@ pub record End (set word : ℕ) (ws : declared.Wires) (p q : Place) (before afte
   pub words : Agrees r.words.of (placed (has set) (joins_at (has set) (q.cell + 1 + 1 + 1 + 1)) (wired ws.of))
 
 -- a loop with the variables of a set: its 35 is cell m, and `again` the wire of another round, which brings the words on the wires us
-pub record RoundReady (set n : ℕ) (p : Place) (m size : ℕ) : Type 0 where
-  pub written : n ≡ many (has set)
-  pub before : p.cell + n + 1 ≤ m
-  pub room : 6 * (joins_at (has set) (m + 1) + n) ≤ size
+pub record RoundReady (set : ℕ) (p : Place) (m size : ℕ) : Type 0 where
+  pub before : p.cell + many (has set) + 1 ≤ m
+  pub room : 6 * (joins_at (has set) (m + 1) + many (has set)) ≤ size
   pub small : size ≤ 42258
 
 -- its latches and the delay of 1, and the 35 and the words to be loaded

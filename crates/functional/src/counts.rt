@@ -1,4 +1,5 @@
 // What a statement writes, and how many cells it takes. A call, a loop, an exit and an element are refused (28): none of them comes here.
+// Kinds are the numbers of the published bytes.
 ghost use Rattle.std.specs.Prelude.{◌≡◌, ◌≤◌};
 ghost use Rattle.model.specs.Program.{seq, ite, while};
 ghost use Rattle.model.specs.Numbering.{expr_count};

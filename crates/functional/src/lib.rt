@@ -22,9 +22,9 @@ mod counts; // what is written, and how many cells
 mod walk; // the cells of a statement
 
 use crate::rows::Row;
+use crate::sets::ALL;
 use crate::walk::Place;
-use compiler::walk::put;
-use model::sizes::{BLOCK, BLOCK_CELLS, BLOCK_LAST, CELL};
+use model::sizes::{BLOCK, CELL};
 use model::{Options, Refusal, Written, refuse};
 use netlist::cells::Layout;
 use program::nodes::Tree;
@@ -34,27 +34,18 @@ fn put_head(cells: &mut [u8])
     requires { 162 ≤ length cells.old }
     ensures { cells.new ≡ write 0 (head_cells ++ (sixteen (λ x. cell 40 0 1 2) ++ idle_arrays 0 4)) cells.old }
 {
-    put(cells, 0, 32, 0, 0, 0);
-    put(cells, 1, 33, 0, 0, 0);
-    put(cells, 2, 1, 0, 0, 0);
-    let memories = Row {
-        kind: 40,
-        a: sets::same(1),
-        b: sets::same(2),
-    };
-    rows::put_each(cells, 65535, memories, 3);
-    for k in 0..4 {
-        let at = 19 + 2 * u16::from(k);
-        put(cells, at, 42, k, 1, 2);
-        put(cells, at + 1, 43, 0, 2, 0);
-    }
+    let clocks = [1u16; 20];
+    let words = [2u16; 20];
+    compiler::whole::put_head(cells);
+    compiler::ors::put_memories(cells, &clocks, &words, 3);
+    compiler::ors::put_arrays(cells, &clocks, &words, &words, 19);
 }
 
 // The wires of the memories.
 fn start_wires() -> sets::Wires
     ensures { Agrees result.of start_wires }
 {
-    sets::placed(65535, 3, sets::same(0))
+    sets::placed(ALL, 3, sets::same(0))
 }
 
 // The netlist of an accepted program, whose statement is at node 0, as a list of cells; answers its finish.
@@ -76,11 +67,12 @@ fn put_netlist(cells: &mut [u8], tree: &Tree<'_>) -> u16
         a: words,
         b: sets::same(2),
     };
-    rows::put_each(cells, 65535, last, end.cell);
+    rows::put_each(cells, ALL, last, end.cell);
     end.wire
 }
 
-// Puts the file of n cells in, which stand in it one after another from byte `from` on.
+// Puts the file of n cells in, which stand in it one after another from byte `from` on. There is no heap: a list beside the file, as
+// netlist::blocks::put_file asks for, would be of the most that any program has.
 fn put_in_place(d: &mut [u8], from: usize, n: usize, finish: u16)
     requires { (n ≤ cell_limit) × (from + 6 * n ≡ 512 * blocks_for n) × (512 * blocks_for n ≤ length d.old) }
     ensures { d.new ≡ sets d.old 0 (file_of 1 (cells_at in_list (drop from d.old) 0 n) finish) }
@@ -98,7 +90,7 @@ fn put_file(file: &mut [u8], tree: &Tree<'_>, n: usize) -> u16
     ensures lent { file.new ≡ overwrite (plain_file tree.now.program.now) file.old }
     ensures finish { result ≡ finish_of (plain_at tree.now.program.now 0) }
 {
-    let count = BLOCK * ((n + BLOCK_LAST) / BLOCK_CELLS);
+    let count = BLOCK * netlist::blocks::blocks_for(n);
     let from = count - CELL * n;
     let finish = put_netlist(&mut file[from..count], tree);
     put_in_place(file, from, n, finish);
@@ -133,14 +125,7 @@ pub fn compile_accepted(options: Options, program: &[u8], file: &mut [u8]) -> us
     ensures length { result ≡ length (functional_file program.now) }
     ensures lent { file.new ≡ overwrite (functional_file program.now) file.old }
 {
-    let told = program::scan_functional(options, program).unwrap();
-    let tree = Tree {
-        program,
-        ends: &told.ends,
-    };
-    let n = count_main(&tree);
-    put_file(file, &tree, n);
-    BLOCK * ((n + BLOCK_LAST) / BLOCK_CELLS)
+    compile(options, program, file).unwrap().count
 }
 
 // Compiles a program into a functional netlist: refusals 19 to 21, 1 to 6, 28, 22, 24, 7, 25 and 8, and 14.
@@ -154,7 +139,7 @@ pub fn compile(options: Options, program: &[u8], file: &mut [u8]) -> Result<Writ
         ends: &told.ends,
     };
     let n = count_main(&tree);
-    let count = BLOCK * ((n + BLOCK_LAST) / BLOCK_CELLS);
+    let count = BLOCK * netlist::blocks::blocks_for(n);
     if file.len() < count {
         return refuse(14, 0);
     }

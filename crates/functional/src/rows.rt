@@ -16,7 +16,7 @@ pub struct Row {
     pub b: Wires,
 }
 
-// Puts a cell for each variable of a set in, from cell k on; answers the next cell.
+// Puts a cell for each variable of a set in, from cell k on; answers the next cell. Variable x is a bit of the set, and an index of both arrays.
 pub fn put_each(cells: &mut [u8], set: u16, row: Row, k: u16) -> u16
     requires { (6 * (k + many (has set)) ≤ length cells.old) × (k + 16 ≤ 65535) }
     ensures cells { cells.new ≡ write k (each (has set) (row_cell row)) cells.old }
@@ -25,14 +25,12 @@ pub fn put_each(cells: &mut [u8], set: u16, row: Row, k: u16) -> u16
     let kind = row.kind;
     let a = row.a.of;
     let b = row.b.of;
-    let mut rest = set;
     let mut at = k;
     for x in 0..16 {
-        if rest % 2 == 1 {
+        if crate::sets::has(set, x) {
             put(cells, at, kind, 0, a[x], b[x]);
             at += 1;
         }
-        rest /= 2;
     }
     at
 }

@@ -1,14 +1,36 @@
 // Sets of variables, a bit for each, and a wire for each variable.
-ghost use Rattle.std.specs.Prelude.{◌≡◌, ◌+◌, ◌≤◌, eqb};
+ghost use Rattle.std.specs.Prelude.{◌≡◌, ◌+◌, ◌<◌, ◌≤◌, eqb, refl};
 ghost use Rattle.model.specs.Word.{pick};
 ghost use Rattle.model.specs.Functional.{many, placed};
 ghost use Rattle.functional.specs.Sets.{has, wired, Agrees, Tells};
+
+use compiler::words::Words;
 
 // The wires that bring a statement the words of the variables.
 #[derive(Clone, Copy)]
 pub struct Wires {
     pub of: [u16; 16],
 }
+
+impl Words for Wires {
+    ghost come_on = { λ w us. Agrees w.of us };
+
+    ghost has_arrays = { λ w. ⊥ };
+
+    ghost some_wires = { λ w. (wired w.of, λ x h. refl) };
+
+    fn variable(&self, x: u16) -> u16 {
+        self.of[usize::from(x)]
+    }
+
+    // An element is refused (28).
+    fn array(&self, _a: u16) -> u16 {
+        unreachable!()
+    }
+}
+
+// The set of all variables.
+pub const ALL: u16 = 65535;
 
 // How many variables are in a set.
 pub fn many(set: u16) -> u16
@@ -17,11 +39,12 @@ pub fn many(set: u16) -> u16
     set.count_ones() as u16
 }
 
-// By a bit, one of two wires.
-fn picked(bit: u16, a: u16, b: u16) -> u16
-    ensures { result ≡ pick (eqb bit 1) a b }
+// Whether variable x is in a set.
+pub fn has(set: u16, x: usize) -> bool
+    requires { x < 16 }
+    ensures { result ≡ has set x }
 {
-    if bit == 1 { a } else { b }
+    (set >> x) % 2 == 1
 }
 
 // The same wire for each variable.
@@ -33,19 +56,17 @@ pub fn same(wire: u16) -> Wires
 }
 
 // The wires of cells at `from`, one for each variable of a set; the others are those of ws.
-// `placed` and `chosen` are two loops: of a closure that counts, the proof would know no result.
 pub fn placed(set: u16, from: u16, ws: Wires) -> Wires
     requires { from + 16 ≤ 65535 }
     ensures { Agrees result.of (placed (has set) from (wired ws.of)) }
 {
-    let ours = ws.of;
-    let mut of = [0u16; 16];
-    let mut rest = set;
+    let mut of = ws.of;
     let mut at = from;
-    for x in 0..16 {
-        of[x] = picked(rest % 2, at, ours[x]);
-        at += rest % 2;
-        rest /= 2;
+    for (x, wire) in of.iter_mut().enumerate() {
+        if has(set, x) {
+            *wire = at;
+            at += 1;
+        }
     }
     Wires { of }
 }
@@ -54,14 +75,12 @@ pub fn placed(set: u16, from: u16, ws: Wires) -> Wires
 pub fn chosen(set: u16, us: Wires, ws: Wires) -> Wires
     ensures { Agrees result.of (λ x. pick (has set x) (wired us.of x) (wired ws.of x)) }
 {
-    let theirs = us.of;
-    let ours = ws.of;
-    let mut of = [0u16; 16];
-    let mut rest = set;
-    for x in 0..16 {
-        of[x] = picked(rest % 2, theirs[x], ours[x]);
-        rest /= 2;
-    }
+    let of = std::array::from_fn(
+        |x: usize| -> u16
+            requires { x < 16 }
+            ensures { result ≡ pick (has set x) (wired us.of x) (wired ws.of x) }
+        { if has(set, x) { us.of[x] } else { ws.of[x] } },
+    );
     Wires { of }
 }
 

@@ -1,19 +1,18 @@
 // The walk: the cells of a statement, put into a list of cells from a place on. What comes before a body and refers to cells behind it is put in
 // after the body: how many cells stand there is known.
+// The compiler's walk has the same kinds of statements: of each, what is put in and where differs, and places do. That the tree is laid each contract
+// says, as in compiler::walk.
 ghost use Rattle.std.specs.Prelude.{◌≡◌, [], ◌∷◌, ℕ, ◌+◌, ◌*◌, ◌<◌, ◌≤◌, length};
 ghost use Rattle.model.specs.Circuit.{cell};
 ghost use Rattle.model.specs.Program.{assign, seq, par, ite, while, repeat};
-ghost use Rattle.model.specs.Numbering.{expr_count};
 ghost use Rattle.compiler.specs.Nodes.{IsLaid, expr_in, stmt_in};
 ghost use Rattle.compiler.specs.Writes.{write};
 ghost use Rattle.functional.specs.Sets.{Agrees};
-ghost use Rattle.compiler.specs.Walk.{ExprDone, Switched};
-ghost use Rattle.functional.specs.Walk.{plainly, place, ExprReady, Ready, Done, EndReady, End, RoundReady, Round};
+ghost use Rattle.functional.specs.Walk.{plainly, place, Ready, Done, EndReady, End, RoundReady, Round};
 
 use crate::rows::Row;
 use crate::sets::Wires;
-use compiler::walk::{Word, put, put_own, put_word};
-use model::Node;
+use compiler::walk::{Parent, put, put_expr, put_own, put_switches};
 use program::nodes::Tree;
 
 // Where the walk is: the wire that starts a statement or has just finished one, the next cell, and the wires of the words.
@@ -24,46 +23,7 @@ pub struct Place {
     pub words: Wires,
 }
 
-// The cells of the expression at node i, from cell c on: children, then its cell; a variable is the wire that brings its word.
-fn put_expr(cells: &mut [u8], tree: &Tree<'_>, ws: Wires, i: usize, c: u16) -> Word
-    requires { IsLaid tree.now × ExprReady (expr_in tree.now i) c (length cells.old) }
-    ensures { (us : ℕ → ℕ) → Agrees ws.of us → ExprDone us (expr_in tree.now i) c cells.old cells.new result }
-{
-    let node = compiler::nodes::expr_node(tree.program, i);
-    let kind = node.kind;
-    if kind == 1 {
-        return put_word(cells, c, 1, node.n, 0);
-    }
-    if kind == 2 {
-        let x = node.n as usize;
-        return Word {
-            wire: ws.of[x],
-            cell: c,
-        };
-    }
-    let first = i + 1;
-    if kind == 3 {
-        let e = put_expr(cells, tree, ws, first, c);
-        return put_word(cells, e.cell, 3, e.wire, 0);
-    }
-    let second = tree.next(first);
-    let e = put_expr(cells, tree, ws, first, c);
-    let f = put_expr(cells, tree, ws, second, e.cell);
-    put_word(cells, f.cell, kind, e.wire, f.wire)
-}
-
-// A condition, and its 36 and 37; answers the 36.
-fn put_switches(cells: &mut [u8], tree: &Tree<'_>, ws: Wires, i: usize, c: u16, pulse: u16) -> u16
-    requires { IsLaid tree.now × ExprReady (expr_in tree.now i) c (length cells.old) × (6 * (c + expr_count (expr_in tree.now i) + 2) ≤ length cells.old) }
-    ensures { (us : ℕ → ℕ) → Agrees ws.of us → Switched us (expr_in tree.now i) c pulse cells.old cells.new result }
-{
-    let e = put_expr(cells, tree, ws, i, c);
-    put(cells, e.cell, 36, 0, pulse, e.wire);
-    put(cells, e.cell + 1, 37, 0, pulse, e.wire);
-    e.cell
-}
-
-// A tick's delay cell, which is its finish.
+// A tick's delay cell, which is its finish: as the compiler's, on a place that is another.
 fn put_tick(cells: &mut [u8], at: Place, delay: u8) -> Place
     requires { (at.cell < 7043) × (6 * at.cell + 6 ≤ length cells.old) }
     ensures cells { cells.new ≡ write at.cell (cell 34 delay at.wire 0 ∷ []) cells.old }
@@ -78,17 +38,17 @@ fn put_tick(cells: &mut [u8], at: Place, delay: u8) -> Place
 }
 
 // An assignment: its expression, whose wire brings the word from now on, and its delay.
-fn put_assign(cells: &mut [u8], tree: &Tree<'_>, first: usize, at: Place, node: Node) -> Place
-    requires { IsLaid tree.now × Ready (assign node.delay node.n (expr_in tree.now first)) at.cell (length cells.old) }
-    ensures { (us : ℕ → ℕ) → Agrees at.words.of us → Done (plainly (assign node.delay node.n (expr_in tree.now first))) at us cells.old cells.new result }
+fn put_assign(cells: &mut [u8], tree: &Tree<'_>, parent: Parent, at: Place) -> Place
+    requires { IsLaid tree.now × Ready (assign parent.node.delay parent.node.n (expr_in tree.now parent.first)) at.cell (length cells.old) }
+    ensures { (us : ℕ → ℕ) → Agrees at.words.of us → Done (plainly (assign parent.node.delay parent.node.n (expr_in tree.now parent.first))) at us cells.old cells.new result }
 {
     let ws = at.words;
-    let e = put_expr(cells, tree, ws, first, at.cell);
-    put(cells, e.cell, 34, node.delay, at.wire, 0);
+    let e = put_expr(cells, tree, &ws, parent.first, at.cell);
+    put(cells, e.cell, 34, parent.node.delay, at.wire, 0);
     Place {
         wire: e.cell,
         cell: e.cell + 1,
-        words: crate::sets::replaced(node.n, e.wire, ws),
+        words: crate::sets::replaced(parent.node.n, e.wire, ws),
     }
 }
 
@@ -106,49 +66,52 @@ pub fn put_stmt(cells: &mut [u8], tree: &Tree<'_>, i: usize, at: Place) -> Place
     if kind == 17 {
         return put_tick(cells, at, node.delay);
     }
-    let d = node.delay;
-    let i1 = i + 1;
-    let i2 = tree.next(i1);
+    let first = i + 1;
+    let second = tree.next(first);
+    let third = tree.next(second);
+    let parent = Parent {
+        node,
+        first,
+        second,
+        third,
+    };
     match kind {
-        18 => put_assign(cells, tree, i1, at, node),
-        19 => put_seq(cells, tree, i1, i2, at),
-        20 => put_par(cells, tree, i1, i2, at),
-        21 => {
-            let i3 = tree.next(i2);
-            put_if(cells, tree, i1, i2, i3, at, d)
-        }
-        22 => put_while(cells, tree, i1, i2, at, d),
-        _ => put_repeat(cells, tree, i1, i2, at, d),
+        18 => put_assign(cells, tree, parent, at),
+        19 => put_seq(cells, tree, parent, at),
+        20 => put_par(cells, tree, parent, at),
+        21 => put_if(cells, tree, parent, at),
+        22 => put_while(cells, tree, parent, at),
+        _ => put_repeat(cells, tree, parent, at),
     }
 }
 
 // Q starts with P's finish, and with the words that P hands on.
 #[cycle(put_if_put_par_put_repeat_put_seq_put_stmt_put_while)]
-fn put_seq(cells: &mut [u8], tree: &Tree<'_>, first: usize, second: usize, at: Place) -> Place
-    requires { IsLaid tree.now × Ready (seq (stmt_in tree.now first) (stmt_in tree.now second)) at.cell (length cells.old) × (first ≤ second) }
-    ensures { (us : ℕ → ℕ) → Agrees at.words.of us → Done (plainly (seq (stmt_in tree.now first) (stmt_in tree.now second))) at us cells.old cells.new result }
+fn put_seq(cells: &mut [u8], tree: &Tree<'_>, parent: Parent, at: Place) -> Place
+    requires { IsLaid tree.now × Ready (seq (stmt_in tree.now parent.first) (stmt_in tree.now parent.second)) at.cell (length cells.old) × (parent.first ≤ parent.second) }
+    ensures { (us : ℕ → ℕ) → Agrees at.words.of us → Done (plainly (seq (stmt_in tree.now parent.first) (stmt_in tree.now parent.second))) at us cells.old cells.new result }
 {
-    let p = put_stmt(cells, tree, first, at);
-    put_stmt(cells, tree, second, p)
+    let p = put_stmt(cells, tree, parent.first, at);
+    put_stmt(cells, tree, parent.second, p)
 }
 
 // P, Q, 38. Each side's words are those that it writes.
 #[cycle(put_if_put_par_put_repeat_put_seq_put_stmt_put_while)]
-fn put_par(cells: &mut [u8], tree: &Tree<'_>, first: usize, second: usize, at: Place) -> Place
-    requires { IsLaid tree.now × Ready (par (stmt_in tree.now first) (stmt_in tree.now second)) at.cell (length cells.old) × (first ≤ second) }
-    ensures { (us : ℕ → ℕ) → Agrees at.words.of us → Done (plainly (par (stmt_in tree.now first) (stmt_in tree.now second))) at us cells.old cells.new result }
+fn put_par(cells: &mut [u8], tree: &Tree<'_>, parent: Parent, at: Place) -> Place
+    requires { IsLaid tree.now × Ready (par (stmt_in tree.now parent.first) (stmt_in tree.now parent.second)) at.cell (length cells.old) × (parent.first ≤ parent.second) }
+    ensures { (us : ℕ → ℕ) → Agrees at.words.of us → Done (plainly (par (stmt_in tree.now parent.first) (stmt_in tree.now parent.second))) at us cells.old cells.new result }
 {
     let ws = at.words;
-    let p = put_stmt(cells, tree, first, at);
+    let p = put_stmt(cells, tree, parent.first, at);
     let to = Place {
         wire: at.wire,
         cell: p.cell,
         words: ws,
     };
-    let q = put_stmt(cells, tree, second, to);
+    let q = put_stmt(cells, tree, parent.second, to);
     put(cells, q.cell, 38, 0, p.wire, q.wire);
-    let of_p = crate::counts::written(tree, first);
-    let of_q = crate::counts::written(tree, second);
+    let of_p = crate::counts::written(tree, parent.first);
+    let of_q = crate::counts::written(tree, parent.second);
     let us = p.words;
     let vs = q.words;
     let right = crate::sets::chosen(of_q, vs, ws);
@@ -201,21 +164,13 @@ fn put_end(cells: &mut [u8], set: u16, word: u16, ws: Wires, p: Place, q: Place)
 
 // Expression, delay, 36, 37, P, Q, and the end of both.
 #[cycle(put_if_put_par_put_repeat_put_seq_put_stmt_put_while)]
-fn put_if(
-    cells: &mut [u8],
-    tree: &Tree<'_>,
-    first: usize,
-    second: usize,
-    third: usize,
-    at: Place,
-    delay: u8,
-) -> Place
-    requires { IsLaid tree.now × Ready (ite delay (expr_in tree.now first) (stmt_in tree.now second) (stmt_in tree.now third)) at.cell (length cells.old) × (second ≤ third) }
-    ensures { (us : ℕ → ℕ) → Agrees at.words.of us → Done (plainly (ite delay (expr_in tree.now first) (stmt_in tree.now second) (stmt_in tree.now third))) at us cells.old cells.new result }
+fn put_if(cells: &mut [u8], tree: &Tree<'_>, parent: Parent, at: Place) -> Place
+    requires { IsLaid tree.now × Ready (ite parent.node.delay (expr_in tree.now parent.first) (stmt_in tree.now parent.second) (stmt_in tree.now parent.third)) at.cell (length cells.old) × (parent.second ≤ parent.third) }
+    ensures { (us : ℕ → ℕ) → Agrees at.words.of us → Done (plainly (ite parent.node.delay (expr_in tree.now parent.first) (stmt_in tree.now parent.second) (stmt_in tree.now parent.third))) at us cells.old cells.new result }
 {
     let ws = at.words;
-    let e = put_expr(cells, tree, ws, first, at.cell);
-    let own = put_own(cells, delay, at.wire, e.cell);
+    let e = put_expr(cells, tree, &ws, parent.first, at.cell);
+    let own = put_own(cells, parent.node.delay, at.wire, e.cell);
     let switch = own.cell;
     put(cells, switch, 36, 0, own.wire, e.wire);
     put(cells, switch + 1, 37, 0, own.wire, e.wire);
@@ -224,24 +179,25 @@ fn put_if(
         cell: switch + 1 + 1,
         words: ws,
     };
-    let p = put_stmt(cells, tree, second, when_true);
+    let p = put_stmt(cells, tree, parent.second, when_true);
     let when_false = Place {
         wire: switch + 1,
         cell: p.cell,
         words: ws,
     };
-    let q = put_stmt(cells, tree, third, when_false);
-    let set = crate::counts::both(tree, second, third);
+    let q = put_stmt(cells, tree, parent.third, when_false);
+    let set = crate::counts::both(tree, parent.second, parent.third);
     put_end(cells, set, e.wire, ws, p, q)
 }
 
-// What a loop with n variables in its set has beside its body, where its 35 is at m and has the start and the wire of another round: its latches at c,
+// What a loop with the variables of a set has beside its body, where its 35 is at m and has the start and the wire of another round: its latches at c,
 // the delay of 1 behind them, the 35, and of each variable the words that may be loaded, gated and joined. Answers the next cell.
-fn put_round(cells: &mut [u8], set: u16, n: u16, at: Place, again: u16, us: Wires, m: u16) -> u16
-    requires { RoundReady set n at m (length cells.old) }
+fn put_round(cells: &mut [u8], set: u16, at: Place, again: u16, us: Wires, m: u16) -> u16
+    requires { RoundReady set at m (length cells.old) }
     ensures { Round set at again us m cells.old cells.new result }
 {
     let ws = at.words;
+    let n = crate::sets::many(set);
     let joins = m + 1 + n + n;
     let latches = Row {
         kind: 45,
@@ -266,32 +222,25 @@ fn put_round(cells: &mut [u8], set: u16, n: u16, at: Place, again: u16, us: Wire
 
 // Latches, the delay of 1, that of d, expression, 36 (starts P), 37 (finish), P, 35 of start and P's finish, and the words to be loaded.
 #[cycle(put_if_put_par_put_repeat_put_seq_put_stmt_put_while)]
-fn put_while(
-    cells: &mut [u8],
-    tree: &Tree<'_>,
-    first: usize,
-    second: usize,
-    at: Place,
-    delay: u8,
-) -> Place
-    requires { IsLaid tree.now × Ready (while delay (expr_in tree.now first) (stmt_in tree.now second)) at.cell (length cells.old) }
-    ensures { (us : ℕ → ℕ) → Agrees at.words.of us → Done (plainly (while delay (expr_in tree.now first) (stmt_in tree.now second))) at us cells.old cells.new result }
+fn put_while(cells: &mut [u8], tree: &Tree<'_>, parent: Parent, at: Place) -> Place
+    requires { IsLaid tree.now × Ready (while parent.node.delay (expr_in tree.now parent.first) (stmt_in tree.now parent.second)) at.cell (length cells.old) }
+    ensures { (us : ℕ → ℕ) → Agrees at.words.of us → Done (plainly (while parent.node.delay (expr_in tree.now parent.first) (stmt_in tree.now parent.second))) at us cells.old cells.new result }
 {
     let ws = at.words;
-    let set = crate::counts::written(tree, second);
+    let set = crate::counts::written(tree, parent.second);
     let n = crate::sets::many(set);
     let latches = crate::sets::placed(set, at.cell, ws);
     let waits = at.cell + n;
-    put(cells, waits + 1, 34, delay, waits, 0);
-    let switch = put_switches(cells, tree, latches, first, waits + 2, waits + 1);
+    put(cells, waits + 1, 34, parent.node.delay, waits, 0);
+    let switch = put_switches(cells, tree, &latches, parent.first, waits + 2, waits + 1);
     let body = Place {
         wire: switch,
         cell: switch + 1 + 1,
         words: latches,
     };
-    let p = put_stmt(cells, tree, second, body);
+    let p = put_stmt(cells, tree, parent.second, body);
     let us = p.words;
-    let end = put_round(cells, set, n, at, p.wire, us, p.cell);
+    let end = put_round(cells, set, at, p.wire, us, p.cell);
     Place {
         wire: switch + 1,
         cell: end,
@@ -301,19 +250,12 @@ fn put_while(
 
 // Latches, the delay of 1, P, the delay of d, expression, 36 (finish), 37, 35 of start and that 37, and the words to be loaded.
 #[cycle(put_if_put_par_put_repeat_put_seq_put_stmt_put_while)]
-fn put_repeat(
-    cells: &mut [u8],
-    tree: &Tree<'_>,
-    first: usize,
-    second: usize,
-    at: Place,
-    delay: u8,
-) -> Place
-    requires { IsLaid tree.now × Ready (repeat delay (expr_in tree.now first) (stmt_in tree.now second)) at.cell (length cells.old) }
-    ensures { (us : ℕ → ℕ) → Agrees at.words.of us → Done (plainly (repeat delay (expr_in tree.now first) (stmt_in tree.now second))) at us cells.old cells.new result }
+fn put_repeat(cells: &mut [u8], tree: &Tree<'_>, parent: Parent, at: Place) -> Place
+    requires { IsLaid tree.now × Ready (repeat parent.node.delay (expr_in tree.now parent.first) (stmt_in tree.now parent.second)) at.cell (length cells.old) }
+    ensures { (us : ℕ → ℕ) → Agrees at.words.of us → Done (plainly (repeat parent.node.delay (expr_in tree.now parent.first) (stmt_in tree.now parent.second))) at us cells.old cells.new result }
 {
     let ws = at.words;
-    let set = crate::counts::written(tree, second);
+    let set = crate::counts::written(tree, parent.second);
     let n = crate::sets::many(set);
     let latches = crate::sets::placed(set, at.cell, ws);
     let waits = at.cell + n;
@@ -322,11 +264,11 @@ fn put_repeat(
         cell: waits + 1,
         words: latches,
     };
-    let p = put_stmt(cells, tree, second, body);
+    let p = put_stmt(cells, tree, parent.second, body);
     let us = p.words;
-    put(cells, p.cell, 34, delay, p.wire, 0);
-    let switch = put_switches(cells, tree, us, first, p.cell + 1, p.cell);
-    let end = put_round(cells, set, n, at, switch + 1, us, switch + 2);
+    put(cells, p.cell, 34, parent.node.delay, p.wire, 0);
+    let switch = put_switches(cells, tree, &us, parent.first, p.cell + 1, p.cell);
+    let end = put_round(cells, set, at, switch + 1, us, switch + 2);
     Place {
         wire: switch,
         cell: end,

@@ -18,7 +18,7 @@ use Rattle.model.specs.FunctionalCalls.{retold, in_mode, functionally}
 use Rattle.laws.specs.Refusals.Laws.{not-refused}
 use Rattle.state.specs.Stands.{Runs}
 use Rattle.simulator.proofs.Refusing.{Tells, begin-accepted, continue-accepted, start-accepted, run-accepted}
-use Rattle.functional_runs.specs.Modes.{Ahead, with_last, retold_as}
+use Rattle.functional_runs.specs.Modes.{Ahead, Refuses, with_last, retold_as}
 
 -- How an answer is told ----------------------------------------------------------------------------------------------------------------
 
@@ -37,16 +37,12 @@ module _ (F : Format) (file lent : List ℕ) where
   unfolding in_mode
   mode-refused {r = r} t H e p = rw (H.refused r e) (p, refl)
 
-  -- a call that the file refuses leaves the list as it was
-  abbrev Refuses : Returned Answer → Type 0
-  Refuses t = (q : Refusal) → file_check file ≡ Err q → t ≡ record { answer = refused_answer q; lent = lent }
-
   left_as : (t : Returned Answer) (c : Checked) → (retold F file c t).lent ≡ t.lent
   unfolding retold
   left_as t (Ok _) = refl
   left_as t (Err r) = refl
 
-  in-mode : (t : Returned Answer) → Ahead file Accepted → Refuses t → functionally F file lent t ≡ retold F file (verdict t.answer.outcome) t
+  in-mode : (t : Returned Answer) → Ahead file Accepted → Refuses file lent t → functionally F file lent t ≡ retold F file (verdict t.answer.outcome) t
   unfolding in_mode retold verdict
   in-mode t H R = ap (λ (c : Checked). in_mode F file c lent t) (H.left refl) ∙ go (file_check file) refl
     where
@@ -54,7 +50,7 @@ module _ (F : Format) (file lent : List ℕ) where
       go (Ok _) e = refl
       go (Err q) e = rw (R q e) refl
 
-  pub mode-told : (t : Returned Answer) {c : Checked} {a b : Answer} {s : List ℕ} → Ahead file c → c ≡ Accepted → Refuses t → Tells t a s → b ≡ retold_as F file a s
+  pub mode-told : (t : Returned Answer) {c : Checked} {a b : Answer} {s : List ℕ} → Ahead file c → c ≡ Accepted → Refuses file lent t → Tells t a s → b ≡ retold_as F file a s
       → Tells (functionally F file lent t) b s
   mode-told t H e R told q =
       rw (in-mode t (rw e at H) R) (q ∙ rw (told.0, told.1) refl, told.1 ∙ sym (left_as t (verdict t.answer.outcome)))
@@ -78,7 +74,7 @@ same_size l r = record { accepted = r.accepted; room = rw l r.room }
 
 module _ (F : Format) (file : List ℕ) where
   module _ (words lent : List ℕ) where
-    pub begin-refuses : Refuses F file lent (begin_call F file words lent)
+    pub begin-refuses : Refuses file lent (begin_call F file words lent)
     unfolding begin_call running
     begin-refuses q e = rw e refl
 
@@ -88,7 +84,7 @@ module _ (F : Format) (file : List ℕ) where
         same_size l (begin-accepted F file words lent (run-behind F (first (begin_checks F file words lent)) file _ 1 lent (rw t.0 at v))).0
 
   module _ (n : ℕ) (lent : List ℕ) where
-    pub continue-refuses : Refuses F file lent (continue_call F file n lent)
+    pub continue-refuses : Refuses file lent (continue_call F file n lent)
     unfolding continue_call going_on
     continue-refuses q e = rw e refl
 
@@ -98,7 +94,7 @@ module _ (F : Format) (file : List ℕ) where
         same_size l (continue-accepted F file n lent (going-behind F (first (continue_checks F file n lent)) file _ lent (rw t.0 at v))).0
 
   module _ (lent : List ℕ) where
-    pub start-refuses : Refuses F file lent (start_call F file lent)
+    pub start-refuses : Refuses file lent (start_call F file lent)
     unfolding start_call running
     start-refuses q e = rw e refl
 
@@ -107,7 +103,7 @@ module _ (F : Format) (file : List ℕ) where
     start-runs l t v = same_size l (start-accepted F file lent (run-behind F (first (start_checks F file lent)) file _ 1 lent (rw t.0 at v))).0
 
 module _ (file words : List ℕ) (n : ℕ) (lent : List ℕ) where
-  pub run-refuses : Refuses Full file lent (run_netlist_call file words n lent)
+  pub run-refuses : Refuses file lent (run_netlist_call file words n lent)
   unfolding run_netlist_call running
   run-refuses q e = rw e refl
 

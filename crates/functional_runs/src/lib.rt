@@ -4,13 +4,15 @@
 #![tactic(auto)]
 
 ghost use Rattle.model.specs.Refusals.{Accepted};
-ghost use Rattle.std.specs.Prelude.{◌≡◌};
+ghost use Rattle.std.specs.Prelude.{◌≡◌, ℕ, List, length};
+ghost use Rattle.std.specs.Fn.{FnOnceReturnsAtMut};
+ghost use Rattle.model.specs.declared.Answer.{Answer};
 ghost use Rattle.model.specs.NetlistFile.{cells_of, last_words};
 ghost use Rattle.model.specs.State.{now_at};
-ghost use Rattle.model.specs.Calls.{verdict};
-ghost use Rattle.model.specs.FunctionalCalls.{begin_functional_call, continue_functional_call, start_functional_call, run_functional_call};
+ghost use Rattle.model.specs.Calls.{verdict, Returned};
+ghost use Rattle.model.specs.FunctionalCalls.{functionally, begin_functional_call, continue_functional_call, start_functional_call, run_functional_call};
 ghost use Rattle.state.specs.Stands.{Runs};
-ghost use Rattle.functional_runs.specs.Modes.{Ahead, with_last, retold_as};
+ghost use Rattle.functional_runs.specs.Modes.{Ahead, Refuses, Answers, with_last, retold_as};
 
 use model::{Answer, Checked, Format, Outcome};
 use state::wires;
@@ -62,16 +64,35 @@ fn retold(format: Format, netlist: &[u8], answer: Answer, state: &[u8]) -> Answe
     }
 }
 
+// A call of the simulator in a functional run: the rule of the last sixteen cells comes before its checks, and what it answers is told with their words.
+fn functionally<F: FnOnce(&mut [u8]) -> Answer>(
+    format: Format,
+    netlist: &[u8],
+    state: &mut [u8],
+    call: F,
+) -> Answer
+    requires can { F.IsAlwaysCallable call }
+    requires sized { (a : Answer) (s : List ℕ) → FnOnceReturnsAtMut F.FnOnce call state.old a s → length s ≡ length state.old → verdict a.outcome ≡ Accepted → Runs format netlist.now s }
+    ensures { (t : Returned Answer) → Refuses netlist.now state.old t → ((a : Answer) (s : List ℕ) → FnOnceReturnsAtMut F.FnOnce call state.old a s → Answers t a s) → Answers (functionally format netlist.now state.old t) result state.new }
+{
+    if let Err(r) = check(netlist) {
+        return Answer::refused(r);
+    }
+    let answer = call(state);
+    retold(format, netlist, answer, state)
+}
+
 // Evaluates instant 0: refusals 9 to 12, 27, 14.
 pub fn begin(format: Format, netlist: &[u8], words: &[u8], state: &mut [u8]) -> Answer
     ensures answer { result ≡ (begin_functional_call format netlist.now words.now state.old).answer }
     ensures lent { state.new ≡ (begin_functional_call format netlist.now words.now state.old).lent }
 {
-    if let Err(r) = check(netlist) {
-        return Answer::refused(r);
-    }
-    let answer = simulator::begin(format, netlist, words, state);
-    retold(format, netlist, answer, state)
+    functionally(
+        format,
+        netlist,
+        state,
+        |lent| simulator::begin(format, netlist, words, lent),
+    )
 }
 
 // Evaluates later instants, until the finish is high or n are done: refusals 9 to 12, 27, 14 to 16, 26.
@@ -79,11 +100,12 @@ pub fn continue_by(format: Format, netlist: &[u8], state: &mut [u8], n: u32) -> 
     ensures answer { result ≡ (continue_functional_call format netlist.now n state.old).answer }
     ensures lent { state.new ≡ (continue_functional_call format netlist.now n state.old).lent }
 {
-    if let Err(r) = check(netlist) {
-        return Answer::refused(r);
-    }
-    let answer = simulator::continue_by(format, netlist, state, n);
-    retold(format, netlist, answer, state)
+    functionally(
+        format,
+        netlist,
+        state,
+        |lent| simulator::continue_by(format, netlist, lent, n),
+    )
 }
 
 // Evaluates one later instant, with a start pulse: refusals 9 to 12, 27, 14 to 16, 23.
@@ -91,11 +113,12 @@ pub fn start(format: Format, netlist: &[u8], state: &mut [u8]) -> Answer
     ensures answer { result ≡ (start_functional_call format netlist.now state.old).answer }
     ensures lent { state.new ≡ (start_functional_call format netlist.now state.old).lent }
 {
-    if let Err(r) = check(netlist) {
-        return Answer::refused(r);
-    }
-    let answer = simulator::start(format, netlist, state);
-    retold(format, netlist, answer, state)
+    functionally(
+        format,
+        netlist,
+        state,
+        |lent| simulator::start(format, netlist, lent),
+    )
 }
 
 // A full run: refusals 9 to 14.
@@ -103,9 +126,10 @@ pub fn run_netlist(netlist: &[u8], words: &[u8], budget: u32, state: &mut [u8]) 
     ensures answer { result ≡ (run_functional_call netlist.now words.now budget state.old).answer }
     ensures lent { state.new ≡ (run_functional_call netlist.now words.now budget state.old).lent }
 {
-    if let Err(r) = check(netlist) {
-        return Answer::refused(r);
-    }
-    let answer = simulator::run_netlist(netlist, words, budget, state);
-    retold(Format::Full, netlist, answer, state)
+    functionally(
+        Format::Full,
+        netlist,
+        state,
+        |lent| simulator::run_netlist(netlist, words, budget, lent),
+    )
 }

@@ -1,9 +1,11 @@
 -- The gates of a program, put in node by node. Assumes nothing.
 use mathlib.Core.Path.{◌≡◌, refl, sym, ap, ◌∙◌}
 use mathlib.Core.List.{List, [], ◌∷◌}
-use Prim.Native.Nat.{ℕ, suc, ◌+◌, ◌<◌, ◌≤◌}
+use Prim.Native.Nat.{ℕ, suc, ◌+◌, ◌*◌, ◌<◌, ◌≤◌}
 use native.Mathlib.Omega.{arith}
-use lib.ListN.{set}
+use lib.ListN.{set, length}
+use Rattle.std.specs.declared.slice.ChunksExact.{ChunksExact}
+use Rattle.word.proofs.Chunks.{Cut}
 use lib.Seq.{sets}
 use borrow.Author.Tests.{ne_eqb}
 use Rattle.model.specs.declared.Node.{Node}
@@ -37,6 +39,14 @@ module _ (s : List ℕ) (i : ℕ) (l : i < node_count s) {a : Node} (e : a ≡ n
 pub gates-end : (s : List ℕ) (i : ℕ) → node_count s ≤ i → gates_in (nodes_at s i) ≡ []
 unfolding gates_in
 gates-end s i l = ap gates_in (nodes-none s i (node_count s) l)
+
+-- a loop that stands at node i, with the gates put in of those before it
+pub record Gated (s start gates : List ℕ) (next : ℕ) (nodes : ChunksExact ℕ) : Type 0 where
+  pub i : ℕ
+  pub cut : Cut 4 s i nodes
+  pub few : next ≤ 2 * i
+  pub all : next + length (gates_in (nodes_at s i)) ≡ length (gates_in (nodes_at s 0))
+  pub put : sets start 0 (gates_in (nodes_at s 0)) ≡ sets gates next (gates_in (nodes_at s i))
 
 -- one and two put in
 pub put_one : (d : List ℕ) (n x : ℕ) (xs : List ℕ) → sets d n (x ∷ xs) ≡ sets (set d n x) (n + 1) xs

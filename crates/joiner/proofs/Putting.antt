@@ -1,25 +1,16 @@
 -- Cells put in renumbered, one after another: what is still to be put in. Assumes nothing.
 use mathlib.Core.Path.{◌≡◌, refl}
-use mathlib.Core.List.{List, [], ◌∷◌, ◌++◌, map}
-use Prim.Native.Nat.{ℕ, ◌+◌, ◌-◌, ◌<◌}
-use lib.ListN.{length}
+use mathlib.Core.List.{List, [], ◌∷◌, map}
+use Prim.Native.Nat.{ℕ, ◌+◌}
 use lib.Seq.{sets}
 use Rattle.model.specs.declared.Cell.{Cell}
-use Rattle.model.specs.NetlistFile.{cell_bytes, cell_from, cells_at, in_file}
-use Rattle.laws.specs.Lists.Writes.{sets-append}
-use Rattle.laws.specs.NetlistFile.CellBytes.{bytes-length, bytes-append}
-use Rattle.netlist.proofs.Bytes.{cells-more, cells-none}
+use Rattle.model.specs.NetlistFile.{cell_bytes}
+use Rattle.netlist.proofs.Bytes.{put-more, put-done}
 
-module _ (f : Cell → Cell) (s : List ℕ) (k n : ℕ) where
-  pub moved_more : {c c' : Cell} → 0 < n → c ≡ cell_from s (in_file k) → c' ≡ f c → (d : List ℕ) (i : ℕ) {d' : List ℕ} → d' ≡ sets d i (cell_bytes (c' ∷ []))
-      → sets d i (cell_bytes (map f (cells_at in_file s k n))) ≡ sets d' (i + 6) (cell_bytes (map f (cells_at in_file s (k + 1) (n - 1))))
-  moved_more {c} {c'} more e g d i p =
-      let cs = map f (cells_at in_file s (k + 1) (n - 1)) in
-      let l : length (cell_bytes (c' ∷ [])) ≡ 6 = bytes-length (c' ∷ []) in
-      let q : sets d i (cell_bytes (c' ∷ []) ++ cell_bytes cs) ≡ sets (sets d i (cell_bytes (c' ∷ []))) (i + 6) (cell_bytes cs) =
-      rw l at (sets-append d i (cell_bytes (c' ∷ [])) (cell_bytes cs)) in
-      rw (cells-more in_file s k n more, ← e, ← g, bytes-append (c' ∷ []) cs, p) q
+module _ (f : Cell → Cell) where
+  pub moved_more : {c' : Cell} {cs rest : List Cell} (c : Cell) → cs ≡ c ∷ rest → c' ≡ f c → (d : List ℕ) (i : ℕ) {d' : List ℕ} → d' ≡ sets d i (cell_bytes (c' ∷ []))
+      → sets d i (cell_bytes (map f cs)) ≡ sets d' (i + 6) (cell_bytes (map f rest))
+  moved_more {c'} c e g d i p = rw e (put-more (f c) refl d i (rw g at p))
 
-  pub moved-done : n ≡ 0 → (d : List ℕ) (i : ℕ) → sets d i (cell_bytes (map f (cells_at in_file s k n))) ≡ d
-  unfolding cell_bytes
-  moved-done none d i = rw (cells-none in_file s k n none) refl
+  pub moved-done : {cs : List Cell} → cs ≡ [] → (d : List ℕ) (i : ℕ) → sets d i (cell_bytes (map f cs)) ≡ d
+  moved-done e d i = rw e (put-done refl d i)

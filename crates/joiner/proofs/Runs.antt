@@ -1,7 +1,7 @@
 -- Loops over the kinds of a file's cells, and what they tell of a compiled file. Assumes nothing.
 use Rattle.model.specs.Refusals.{Accepted}
-use mathlib.Core.Path.{◌≡◌, sym, ap, ap₂, ◌∙◌}
-use mathlib.Core.Bool.{Bool, true, false, ◌&&◌}
+use mathlib.Core.Path.{◌≡◌, refl, sym, ap, ap₂, ◌∙◌}
+use mathlib.Core.Bool.{Bool, true, false, cond, ◌&&◌}
 use mathlib.Core.List.{List, [], ◌∷◌, ◌++◌}
 use Prim.Native.Nat.{ℕ, zero, suc, ◌+◌, ◌-◌, ◌<◌, ◌≤◌}
 use native.Mathlib.Omega.{arith}
@@ -9,7 +9,7 @@ use native.Mathlib.Nat.{zero-add, add-zero}
 use lib.Dec.{eqb}
 use lib.ListN.{length, take, drop, length-drop}
 use lib.Seq.{take_all}
-use borrow.Author.Tests.{eq-eqb, ne_eqb}
+use Rattle.std.specs.List.{prefix_len}
 use Rattle.model.specs.declared.Cell.{Cell}
 use Rattle.model.specs.Word.{pick}
 use Rattle.model.specs.Program.{Code}
@@ -20,7 +20,6 @@ use Rattle.laws.specs.NetlistFile.Passed.{length-cells, count-cells, file-passed
 use Rattle.laws.specs.Numbering.Parts.{net-length}
 use Rattle.netlist.specs.declared.cells.Layout.TheVariants.{InFile}
 use Rattle.netlist.specs.Offsets.{Room}
-use Rattle.netlist.proofs.Bytes.{cells-more}
 use Rattle.netlist.proofs.FileChecks.{accepted-room}
 use Rattle.joiner.specs.Kinds.{kind_run, trimmed}
 use Rattle.joiner.specs.Stands.{Compiled, OwnOf}
@@ -36,36 +35,18 @@ run_short k (c ∷ cs) = go (eqb c.kind k) (run_short k cs)
     go true h = omega arith
     go false h = omega arith
 
--- the loop of a run: what is left of it from cell i on
-module _ (s : List ℕ) (count kind i : ℕ) where
-  abbrev left : List Cell
-  left = cells_at in_file s i (count - i)
+-- a run as the length of a front whose cells all pass
+abbrev pub of_kind : ℕ → Cell → Bool
+of_kind k c = eqb c.kind k
 
-  split : i < count → left ≡ cell_from s (in_file i) ∷ cells_at in_file s (i + 1) (count - (i + 1))
-  split l =
-      let e : count - i - 1 ≡ count - (i + 1) = omega arith in
-      cells-more in_file s i (count - i) (omega arith) ∙ ap (λ (m : ℕ). cell_from s (in_file i) ∷ cells_at in_file s (i + 1) m) e
-
-  pub run_more : {c : Cell} → i < count → c ≡ cell_from s (in_file i) → c.kind ≡ kind
-      → kind_run kind left ≡ 1 + kind_run kind (cells_at in_file s (i + 1) (count - (i + 1)))
-  unfolding kind_run
-  run_more {c} l e k =
-      let t : eqb (cell_from s (in_file i)).kind kind ≡ true = ap (λ (c : Cell). eqb c.kind kind) (sym e) ∙ eq-eqb c.kind kind k in
-      let r = kind_run kind (cells_at in_file s (i + 1) (count - (i + 1))) in
-      ap (kind_run kind) (split l) ∙ ap (λ (b : Bool). pick b (suc r) 0) t ∙ omega arith
-
-  pub run_end : {c : Cell} → i < count → c ≡ cell_from s (in_file i) → (c.kind ≡ kind → ⊥) → kind_run kind left ≡ 0
-  unfolding kind_run
-  run_end {c} l e k =
-      let t : eqb (cell_from s (in_file i)).kind kind ≡ false = ap (λ (c : Cell). eqb c.kind kind) (sym e) ∙ ne_eqb c.kind kind k in
-      let r = kind_run kind (cells_at in_file s (i + 1) (count - (i + 1))) in
-      ap (kind_run kind) (split l) ∙ ap (λ (b : Bool). pick b (suc r) 0) t
-
-  pub run-all : count ≤ i → kind_run kind left ≡ 0
-  unfolding kind_run cells_at
-  run-all l =
-      let e : count - i ≡ 0 = omega arith in
-      ap (λ (m : ℕ). kind_run kind (cells_at in_file s i m)) e
+pub run-prefix : (k : ℕ) (cs : List Cell) → kind_run k cs ≡ prefix_len (of_kind k) cs
+unfolding kind_run
+run-prefix k [] = refl
+run-prefix k (c ∷ cs) = go (eqb c.kind k) (run-prefix k cs)
+  where
+    go : (b : Bool) {m n : ℕ} → m ≡ n → pick b (suc m) 0 ≡ cond b (1 + n) 0
+    go true e = omega (arith, e)
+    go false e = refl
 
 -- the loop that cuts off: n cells are left
 cells-snoc : (at : ℕ → ℕ) (s : List ℕ) (i n : ℕ) → cells_at at s i (suc n) ≡ cells_at at s i n ++ (cell_from s (at (i + n)) ∷ [])

@@ -69,7 +69,7 @@ fn is_own(options: Options, program: &[u8], file: &[u8]) -> bool
     netlist::same::is_file_of(
         file,
         &cells,
-        made.count as usize,
+        usize::from(made.count),
         options.pulse,
         made.finish,
     )

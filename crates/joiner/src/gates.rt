@@ -7,16 +7,16 @@ ghost use Rattle.joiner.specs.Gates.{gates_in};
 
 use model::sizes::NODE;
 
-// Of each assignment its variable; of each element assignment its array as a variable, and then 20 for its index. Answers how many they are.
-pub fn put_gates(gates: &mut [u16], program: &[u8]) -> usize
+// Of each assignment its variable; of each element assignment its array as a variable, and then 20 for its index. Of a node there are none, one or
+// two, so that they are counted by themselves. Numbers, as the marks have them (compiler::ors): a mark is a variable, an array being one of 16 to 19,
+// and an index has none of its own.
+pub fn put_gates(gates: &mut [u16], program: &[u8])
     requires { (length gates.old ≡ 400) × Readable 0 program.now }
-    ensures count { result ≡ length (gates_in (nodes_at program.now 0)) }
-    ensures put { gates.new ≡ sets gates.old 0 (gates_in (nodes_at program.now 0)) }
+    ensures { gates.new ≡ sets gates.old 0 (gates_in (nodes_at program.now 0)) }
 {
-    let nodes = program.len() / NODE;
     let mut next: usize = 0;
-    for i in 0..nodes {
-        let node = program::nodes::read_node(program, i);
+    for bytes in program.chunks_exact(NODE) {
+        let node = program::nodes::read_node(bytes, 0);
         match node.kind {
             18 => {
                 gates[next] = node.n;
@@ -30,5 +30,4 @@ pub fn put_gates(gates: &mut [u16], program: &[u8]) -> usize
             _ => {}
         }
     }
-    next
 }

@@ -33,14 +33,15 @@ fn place_part(
         cell: at.cell,
     };
     let end = crate::moving::put_part(cells, file, own, memory, spot);
+    // no heap: a list of a fixed size, with zeros behind the gates, which no cell of kind 41 comes to
     let mut gates = [0u16; 400];
     crate::gates::put_gates(&mut gates, program);
     let mark = crate::marks::put_marks(
         marks,
         cells,
         &gates,
-        at.cell as usize,
-        end.cell as usize,
+        usize::from(at.cell),
+        usize::from(end.cell),
         at.mark,
     );
     Place {
@@ -48,7 +49,7 @@ fn place_part(
         delay: end.delay,
         cell: end.cell,
         mark,
-        out: at.out,
+        ..at
     }
 }
 
@@ -70,7 +71,8 @@ fn put_parts(cells: &mut [u8], marks: &mut [u16; 800], parts: Parts, memory: u16
     at
 }
 
-// The netlist of the whole. As in compiling, the walk is put in twice: the first time it tells where the memories begin.
+// The netlist of the whole. As in compiling, the walk is put in twice: the first time it tells where the memories begin. What follows a walk is the
+// compiler's own; the walks themselves differ, here with no callers, and a function that is lent one would be longer than the two calls.
 pub fn put_netlist(cells: &mut [u8], parts: Parts) -> Netlist
     requires { SomeGiven (parts_left parts) (length cells.old) }
     ensures { (options : Options) → Given options (parts_left parts.entry) (length cells.old) → Made (joined_program (parts_left parts.entry)) cells.new result }

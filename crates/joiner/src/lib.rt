@@ -1,6 +1,7 @@
 // Compiling by parts: programs that were compiled one by one, joined into the netlist file of their sequence, in a lent buffer.
 // The parts' cells are moved from their files to their new numbers; only the ors that join assignments are made anew, by the compiler's own functions.
 // The call has no requires; its contract is an equation with model/PartCalls.
+// Most widening casts are `as`, and hold by computation: a From is one more equation to rewrite by.
 #![tactic(auto)]
 
 ghost use Rattle.std.specs.Prelude.{◌≡◌};
@@ -41,7 +42,7 @@ pub fn join(
     netlist::write_file(
         netlist,
         &cells,
-        made.count as usize,
+        usize::from(made.count),
         u16::from(parts.pulse()),
         made.finish,
     )

@@ -11,7 +11,7 @@ ghost use Rattle.joiner.specs.Stands.{moves, Fits, Low, LowCells, PartReady, Own
 
 use model::Cell;
 use model::sizes::CELL;
-use netlist::cells::Layout;
+use netlist::cells::{Cells, Layout};
 
 // Where a part stands: its own first memory, and in the whole the first memory, the part's start, its first delay cell and its first walk cell.
 #[derive(Clone, Copy)]
@@ -31,7 +31,8 @@ pub struct Own {
     pub walk: u16,
 }
 
-// A place in the whole: a start wire, the next delay cell and the next walk cell.
+// A place in the whole: a start wire, the next delay cell and the next walk cell. The compiler's place has the marks and the exits beside, which no
+// moving touches.
 #[derive(Clone, Copy)]
 pub struct Spot {
     pub wire: u16,
@@ -77,12 +78,15 @@ pub fn put_moved(cells: &mut [u8], i: usize, file: &[u8], k: usize, n: usize, at
     requires { Room InFile file.now (k + n) × (i + 6 * n ≤ length cells.old) × Fits at × LowCells file.now (k + n) }
     ensures { cells.new ≡ sets cells.old i (cell_bytes (map (rewired (moves at)) (cells_at in_file file.now k n))) }
 {
-    let mut to = i;
-    for from in k..k + n {
-        let c = netlist::cells::cell_at(file, Layout::InFile, from);
+    let own = Cells {
+        bytes: file,
+        layout: Layout::InFile,
+        next: k,
+        end: k + n,
+    };
+    for (j, c) in own.enumerate() {
         let moved = rewired(c, at);
-        netlist::cells::put_cell(cells, to, moved, 0);
-        to += CELL;
+        netlist::cells::put_cell(cells, i + CELL * j, moved, 0);
     }
 }
 

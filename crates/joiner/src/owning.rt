@@ -9,23 +9,23 @@ ghost use Rattle.joiner.specs.Kinds.{kind_run, trimmed};
 ghost use Rattle.joiner.specs.Stands.{Compiled, OwnOf};
 
 use crate::moving::Own;
-use netlist::cells::Layout;
+use netlist::cells::{Cells, Layout};
 
 // How many of a file's `count` cells are of a kind, one after another, from cell `from` on.
 fn run_of(file: &[u8], count: usize, kind: u8, from: usize) -> usize
     requires { Room InFile file.now count × (from ≤ count) }
     ensures { result ≡ kind_run kind (cells_at in_file file.now from (count - from)) }
 {
-    for i in from..count {
-        let c = netlist::cells::cell_at(file, Layout::InFile, i);
-        if c.kind != kind {
-            return i - from;
-        }
-    }
-    count - from
+    let cells = Cells {
+        bytes: file,
+        layout: Layout::InFile,
+        next: from,
+        end: count,
+    };
+    cells.take_while(|c| c.kind == kind).count()
 }
 
-// How many of them there are without those of kind 7 at the end.
+// How many of them there are without those of kind 7 at the end. By number, since Cells has no next_back.
 fn past_walk(file: &[u8], count: usize) -> usize
     requires { Room InFile file.now count }
     ensures { result ≡ trimmed (cells_at in_file file.now 0 count) }

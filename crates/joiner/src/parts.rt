@@ -12,7 +12,7 @@ pub struct LentPart<'a> {
     pub pulse: u8,
 }
 
-// The parts that are left, one after another.
+// The parts that are left, one after another. Lengths and pulse lengths are lists by themselves, as callers lend them (hub_join).
 #[derive(Clone, Copy)]
 pub struct Parts<'a> {
     pub lengths: &'a [u32],
@@ -28,7 +28,7 @@ impl<'a> Parts<'a> {
         self.lengths.len().div_ceil(2)
     }
 
-    // The given pulse length of the first, 0 where it is missing.
+    // The given pulse length of the first, 0 where it is missing: definition `parts_in`.
     pub fn pulse(&self) -> u8
         ensures { result ≡ get_or self.now.pulses.now 0 0 }
     {
@@ -46,6 +46,7 @@ impl<'a> Iterator for Parts<'a> {
 
     ghost remaining = { item_count parts_left };
 
+    // A file whose length is missing is empty, and a missing pulse length is 0: definition `parts_in`.
     fn next(&mut self) -> Option<LentPart<'a>> {
         let (n, lengths) = self.lengths.split_first()?;
         let (program, bytes) = split_within(self.bytes, *n as usize);
@@ -74,7 +75,7 @@ fn split_within(bytes: &[u8], n: usize) -> (&[u8], &[u8])
 }
 
 // The first of a list, or what stands for it where there is none, and those behind.
-fn first_or<T: Copy>(xs: &[T], none: T) -> (T, &[T])
+pub(crate) fn first_or<T: Copy>(xs: &[T], none: T) -> (T, &[T])
     ensures first { result.0 ≡ get_or xs.now 0 none }
     ensures behind { result.1.now ≡ drop 1 xs.now }
 {

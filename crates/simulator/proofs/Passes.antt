@@ -2,12 +2,13 @@
 use mathlib.Core.List.{List, ◌++◌, append_assoc}
 use mathlib.Core.Logic.{◌⊎◌, inl, inr}
 use mathlib.Core.Path.{◌≡◌, refl, sym, ◌∙◌, ap}
-use Prim.Native.Nat.{ℕ, zero, suc, ◌+◌, ◌*◌, ◌/◌, ◌%◌, ◌<◌, ◌≤◌}
+use Prim.Native.Nat.{ℕ, zero, suc, ◌+◌, ◌-◌, ◌*◌, ◌/◌, ◌%◌, ◌<◌, ◌≤◌}
 use native.Mathlib.Omega.{arith}
 use native.Mathlib.Decide.{dec_lt}
 use native.Mathlib.Numerals.{add-one}
 use lib.ListN.{length, get_or, take, drop, replicate, length-take}
-use lib.Seq.{sets, sets-eq, drop_at, drop-cons}
+use Rattle.std.proofs.lemmas.List.{length-replicate}
+use lib.Seq.{sets, sets-eq, length-sets, drop_at, drop-cons}
 use Rattle.model.specs.Circuit.{Netlist}
 use Rattle.model.specs.declared.Format.{Format}
 use Rattle.model.specs.Word.{bytes16, get16, Bytes}
@@ -66,14 +67,20 @@ words-bytes s b x (suc n) h =
 module _ (F : Format) (net : Netlist) (n : ℕ) (e : length net.cells ≡ n) (s : List ℕ) where
   -- the elements' start words, then zeros before them
   pub blank-is : (words : ℕ → ℕ) (r t : List ℕ) → base F n + 512 ≤ length s → r ≡ sets s (base F n) (word_bytes words 16 256)
-      → t ≡ replicate (base F n) 0 ++ drop (base F n) r → t ≡ blank F net words s
+      → t ≡ sets r 0 (replicate (base F n - 0) 0) → t ≡ blank F net words s
   blank-is words r t l a b =
       let m = base F n in
       let ws = word_bytes words 16 256 in
       let k : length ws ≡ 512 = length-words words 16 256 in
       let z : r ≡ (take m s ++ ws) ++ drop (m + length ws) s = a ∙ sets-eq ws s m (omega (arith, k)) in
       let y : drop m r ≡ ws ++ drop (m + length ws) s = rw (z, append_assoc (take m s) ws) (drop_at (take m s) _ m (simp length-take (omega arith))) in
-      rw (e, ← k) (b ∙ ap (λ (q : List ℕ). replicate m 0 ++ q) y)
+      let none : ℕ = 0 in
+      let zeros : 0 + length (replicate m none) ≡ m = omega (arith, length-replicate m none) in
+      let whole : m - 0 ≡ m = omega arith in
+      let long : length r ≡ length s = ap length a ∙ length-sets s m ws in
+      let cleared : t ≡ replicate m 0 ++ drop m r =
+      b ∙ ap (λ (j : ℕ). sets r 0 (replicate j 0)) whole ∙ sets-eq (replicate m 0) r 0 (omega (arith, zeros, long, l)) ∙ ap (λ (j : ℕ). replicate m 0 ++ drop j r) zeros in
+      rw (e, ← k) (cleared ∙ ap (λ (q : List ℕ). replicate m 0 ++ q) y)
 
   pub begun : (words : ℕ → ℕ) (t u v : List ℕ) → t ≡ blank F net words s → u ≡ up_to (shown F net (first_value F net words)) n t
       → v ≡ counted F net (up_to (settled F net) n u) → v ≡ begin_state F net words s

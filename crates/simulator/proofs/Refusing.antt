@@ -6,7 +6,7 @@ use mathlib.Core.Path.{◌≡◌, refl, sym, ◌∙◌, ap}
 use Prim.Native.Nat.{ℕ, ◌+◌, ◌<◌, ◌≤◌}
 use native.Mathlib.Omega.{arith}
 use lib.Dec.{ltb}
-use lib.ListN.{length, drop}
+use lib.ListN.{length}
 use borrow.Author.Tests.{lt-ltb, le-ltb, ltb-false}
 use Rattle.model.specs.declared.Refusal.{Refusal}
 use Rattle.model.specs.declared.Format.{Format}
@@ -15,8 +15,8 @@ use Rattle.model.specs.declared.Answer.{Answer}
 use Rattle.model.specs.Refusals.{refuse, refuse_if, first, Checked, Accepted}
 use Rattle.model.specs.NetlistFile.{file_check, net_of}
 use Rattle.model.specs.State.{Course, base, state_size, instant_of, flight_of, sound}
-use Rattle.model.specs.Calls.{is_too_long, format_check, Returned, short, refused_answer, shows, running, going_on, begin_checks, continue_checks, busy, start_checks, run_netlist_checks}
-use Rattle.laws.specs.Refusals.Laws.{not-false, or-false, first_one, first-append, all-accept, refuse-unless}
+use Rattle.model.specs.Calls.{is_too_long, format_check, Returned, short, over_budget, refused_answer, shows, running, going_on, begin_checks, continue_checks, busy, start_checks, run_netlist_checks}
+use Rattle.laws.specs.Refusals.Laws.{not-false, or-false, first_one, first-drop, first-append, all-accept, refuse-unless}
 use Rattle.laws.specs.NetlistFile.Passed.{count-cells}
 use Rattle.netlist.specs.declared.header.Header.{Header}
 use Rattle.netlist.specs.Headers.{header_of}
@@ -93,9 +93,12 @@ module _ (F : Format) (file lent : List ℕ) (e : first (continue_checks F file 
   pub start_right : busy F file lent ≡ false → Accepted ≡ first (start_checks F file lent)
   start_right h = sym (first-append (continue_checks F file 1 lent) (number_check F file lent) e ∙ ap (λ (b : Bool). first (refuse_if b 23 0 ∷ [])) h)
 
-module _ (file words : List ℕ) (n : ℕ) (lent : List ℕ) (e : file_check file ≡ Accepted) where
-  pub run_lent : n ≤ 1000000 → first (drop 2 (run_netlist_checks file words n lent)) ≡ first (run_netlist_checks file words n lent)
-  run_lent b = rw (e, le-ltb 1000000 n b) refl
+-- of a full run the state's room is looked at last
+pub run-room : (file words : List ℕ) (n : ℕ) (lent : List ℕ) → file_check file ≡ Accepted → first (over_budget n ∷ short (length words) 544 ∷ []) ≡ Accepted
+    → short (length lent) (state_size Full (net_of file)) ≡ first (run_netlist_checks file words n lent)
+run-room file words n lent e a =
+    let checks = run_netlist_checks file words n lent in
+    first_one (short (length lent) (state_size Full (net_of file))) ∙ sym (first-drop 3 checks (rw e a))
 
 -- What is known when none is -----------------------------------------------------------------------------------------------------------
 

@@ -6,10 +6,13 @@ ghost use Rattle.model.specs.State.{base};
 ghost use Rattle.model.specs.Calls.{is_too_long, short, begin_checks, continue_checks, start_checks, run_netlist_checks};
 ghost use Rattle.model.specs.NetlistFile.{cell_limit};
 
+use model::asked::check_asked;
 use model::sizes::{ELEMENTS, LAST_INSTANT, START_WORDS};
 use model::{Checked, Format, Refusal, refuse};
 use netlist::header;
 use state::{sound, wires};
+
+// Refusals are numbers, as callers get them. Numbers widen by `as`, with which proofs compute.
 
 // Refusal 14 of a state of n cells.
 fn check_room(format: Format, n: usize, state: &[u8]) -> Checked
@@ -88,9 +91,7 @@ pub fn check_run(file: &[u8], words: &[u8], budget: u32, state: &[u8]) -> Checke
     ensures { result ≡ first (run_netlist_checks file.now words.now budget state.now) }
 {
     netlist::check_file(file)?;
-    if LAST_INSTANT < budget {
-        return refuse(13, 0);
-    }
+    check_asked(budget, words)?;
     let h = header::header_of(file);
-    check_lent(Format::Full, h.count, words, state)
+    check_room(Format::Full, h.count, state)
 }

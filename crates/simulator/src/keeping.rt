@@ -9,9 +9,9 @@ ghost use Rattle.model.specs.State.{base, before_at, instant_of, up_to, crowding
 ghost use Rattle.simulator.specs.Fits.{Fits};
 ghost use Rattle.simulator.specs.Keeping.{Roomy, Kept, taken_back};
 
+use crate::source::Source;
 use model::sizes::{BLOCK_HEADER, ELEMENTS, MOST_CELLS};
 use model::{Checked, Format, refuse};
-use netlist::header::Header;
 use state::{lines, wires};
 
 // The elements, and a word for each cell.
@@ -25,6 +25,8 @@ pub fn copy(to: &mut [u8], i: usize, from: &[u8], j: usize, n: usize)
     to[i..i + n].copy_from_slice(&from[j..j + n]);
 }
 
+// Here and in taking back k numbers a cell of a state and a word of the list, each at a place of its own: of chunks that were lent to be written a proof
+// knows the lengths alone afterwards.
 fn keep_values(format: Format, kept: &mut [u8], state: &[u8], n: usize)
     requires { (n ≤ cell_limit) × Roomy kept.old × (base format n ≤ length state.now) }
     ensures { (k : ℕ) → k < n → get16 kept.new (512 + 2 * k) ≡ before_at format state.now k }
@@ -35,7 +37,8 @@ fn keep_values(format: Format, kept: &mut [u8], state: &[u8], n: usize)
     }
 }
 
-// Comes before the instant. A list that is too short keeps nothing.
+// Comes before the instant. A list that is too short keeps nothing, and an empty one stands for none: `Roomy` of specs/Keeping, by which the contracts tell
+// the two apart, asks for the length alone. The list is lent on to each instant, where an Option of it would be taken apart and put together again.
 pub fn keep(format: Format, kept: &mut [u8], state: &[u8], n: usize)
     requires { (n ≤ cell_limit) × (base format n + 512 ≤ length state.now) }
     ensures { Roomy kept.old → Kept format n state.now kept.new }
@@ -46,15 +49,15 @@ pub fn keep(format: Format, kept: &mut [u8], state: &[u8], n: usize)
     }
 }
 
-// Refusal 26, where the cells show their values of the instant and no line has taken its input in.
-pub fn check_lines(format: Format, file: &[u8], h: Header, state: &[u8]) -> Checked
-    requires { Fits format file.now h state.now }
-    ensures { result ≡ crowding format (net_of file.now) state.now state.now }
+// Refusal 26, where the cells show their values of the instant and no line has taken its input in. k and `at` are as in crate::instant.
+pub fn check_lines(source: &Source<'_>, state: &[u8]) -> Checked
+    requires { Fits source.now.format source.now.file.now source.now.h state.now }
+    ensures { result ≡ crowding source.now.format (net_of source.now.file.now) state.now state.now }
 {
     let mut at = BLOCK_HEADER;
-    for k in 0..h.count {
-        let c = netlist::cells::cell_from(file, at);
-        if (c.kind == 34) && lines::is_crowded(format, c, state, k) {
+    for k in 0..source.h.count {
+        let c = netlist::cells::cell_from(source.file, at);
+        if (c.kind == 34) && lines::is_crowded(source.format, c, state, k) {
             return refuse(26, k);
         }
         at = netlist::cells::next_offset(at);

@@ -1,10 +1,12 @@
 // The simulator: begin, continue, start and the full run of a netlist file, on the published bytes of a state, full or compact.
 // The calls have no requires. They check first and write afterwards; their contracts are equations with model/Calls.
+// An answer is a struct, by value, and no Result: so each call tells its refusal by hand.
 #![tactic(auto)]
 
 ghost use Rattle.std.specs.Prelude.{◌≡◌};
 ghost use Rattle.model.specs.Calls.{refused_answer, begin_call, continue_call, start_call, run_netlist_call};
 
+pub mod source; // what a run is of
 pub mod keeping; // an instant taken back
 pub mod instant; // one further instant
 pub mod beginning; // instant 0

@@ -10,9 +10,9 @@ use lib.ListN.{length, get_or, get_or-eq_default}
 use borrow.Author.Tests.{eqb-true, eqb-false, eq-eqb, ne_eqb, le-leb, lt-leb, lt-ltb, le-ltb}
 use Rattle.model.specs.declared.Cell.{Cell}
 use Rattle.model.specs.Word.{pick, bit, is_zero, operate, index, put16}
-use Rattle.model.specs.Circuit.{high, Shape, cell_table, shape, k_ground, k_array, k_address, k_unknown}
+use Rattle.model.specs.Circuit.{high, merges, Shape, cell_table, shape, k_ground, k_array, k_address, k_unknown}
 use Rattle.model.specs.Gates.{past}
-use Rattle.laws.specs.Refusals.Laws.{by_bool}
+use Rattle.laws.specs.Refusals.Laws.{by_bool, not-both}
 use Rattle.laws.specs.Circuit.Shapes.{operator-shape, apart}
 use Rattle.slow.specs.Ring.{slot, word_in, element_in, held_ring, held_of, held_in, merged_in, fallen_in, shown_in, time_at, taken_in, Leaves}
 use Rattle.slow.proofs.Rings.{put-element, put_same, leaves-more}
@@ -131,6 +131,11 @@ pub no-operator-high : (kind : ℕ) → 10 ≤ kind → NoOperator kind
 no-operator-high kind h =
     record { test = rw (le-leb 4 kind (omega arith), lt-leb kind 9 (omega arith)) refl; three = λ e. omega arith }
 
+-- nor a merge's
+pub no-merge : (kind : ℕ) → merges kind ≡ false → (kind ≡ 38 → ⊥) × (kind ≡ 39 → ⊥)
+unfolding merges
+no-merge kind m = (λ e. not-both refl (rw e at m), λ e. not-both refl (rw e at m))
+
 -- kinds that show what their inputs have, worked out, are none of these
 pub record Still (kind : ℕ) : Type 0 where
   pub operator : NoOperator kind
@@ -210,6 +215,11 @@ module _ (s : List ℕ) (n k : ℕ) (c : Cell) (t d word₀ : ℕ) where
   pub next-return : c.kind ≡ 39 → Shows (bit (merged_in s n k c t).out)
   unfolding shown_in shape
   next-return h = by_kind 39 h
+
+  -- a merge of either kind
+  pub next-merges : merges c.kind ≡ true → Shows (bit (merged_in s n k c t).out)
+  unfolding merges
+  next-merges m = by_bool (eqb c.kind 38) (λ e. next-merge (eqb-true c.kind 38 e)) (λ e. next-return (eqb-true c.kind 39 (rw e at m)))
 
   pub next-memory : c.kind ≡ 40 → Shows (pick (eqb t 0) word₀ (pick (fallen_in s c.a t) (word_in s c.b (t - 1)) (word_in s k (t - 1))))
   unfolding shown_in shape

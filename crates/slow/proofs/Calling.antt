@@ -18,7 +18,7 @@ use Rattle.model.specs.Circuit.{memories, level}
 use Rattle.model.specs.Word.{Bytes}
 use Rattle.model.specs.NetlistFile.{pulse_wrong}
 use Rattle.model.specs.TimeTables.{given_check}
-use Rattle.model.specs.Calls.{short, check_call, refused_answer, overwrite}
+use Rattle.model.specs.Calls.{short, over_budget, check_call, refused_answer, overwrite}
 use Rattle.model.specs.Gates.{end_at, slow_answer, value_bytes, slow_size, with_pulse, slow_program, slow_run_checks, slow_running, slow_run_call}
 use Rattle.laws.specs.Refusals.Laws.{all-accept, refuse-unless, first_one, first-take, first-drop, accept-take}
 use Rattle.laws.specs.Program.Fit.{EveryRoot, Numberable}
@@ -65,25 +65,23 @@ module _ (options : Options) (program words : List ℕ) (budget : ℕ) (values w
     after-program : verdict ≡ first (drop 2 checks)
     after-program = first-drop 2 checks (sym first_two ∙ e)
 
-    pub at-budget : 1000000 < budget → refuse 13 0 ≡ verdict
-    at-budget b = rw (after-program, lt-ltb 1000000 budget b) refl
+    -- what is asked of every full run comes next, and then the two buffers
+    pub at-asked : {r : Refusal} → first (over_budget budget ∷ short (length words) 544 ∷ []) ≡ Err r → Err r ≡ verdict
+    at-asked q = sym (after-program ∙ first-take 2 (drop 2 checks) q)
 
-    module _ (b : budget ≤ 1000000) where
-      pub at_words : length words < 544 → refuse 14 0 ≡ verdict
-      at_words l = rw (after-program, le-ltb 1000000 budget b, lt-ltb (length words) 544 l) refl
+    module _ (a : first (over_budget budget ∷ short (length words) 544 ∷ []) ≡ Accepted) {n : ℕ} (count : n ≡ length (netlist S)) where
+      after-asked : verdict ≡ first (drop 4 checks)
+      after-asked = after-program ∙ first-drop 2 (drop 2 checks) a
 
-      module _ (l : 544 ≤ length words) {n : ℕ} (count : n ≡ length (netlist S)) where
-        pub at-values : length values < 2 * n → refuse 14 0 ≡ verdict
-        at-values s = rw (after-program, le-ltb 1000000 budget b, le-ltb (length words) 544 l, ← count, lt-ltb (length values) (2 * n) s) refl
+      pub at-values : length values < 2 * n → refuse 14 0 ≡ verdict
+      at-values s = rw (after-asked, ← count, lt-ltb (length values) (2 * n) s) refl
 
-        module _ (s : 2 * n ≤ length values) where
-          pub at-work : length work < slow_size n → refuse 14 0 ≡ verdict
-          at-work t =
-              rw (after-program, le-ltb 1000000 budget b, le-ltb (length words) 544 l, ← count, le-ltb (length values) (2 * n) s, lt-ltb (length work) (slow_size n) t) refl
+      module _ (s : 2 * n ≤ length values) where
+        pub at-work : length work < slow_size n → refuse 14 0 ≡ verdict
+        at-work t = rw (after-asked, ← count, le-ltb (length values) (2 * n) s, lt-ltb (length work) (slow_size n) t) refl
 
-          pub at_none : slow_size n ≤ length work → Accepted ≡ verdict
-          at_none t =
-              rw (after-program, le-ltb 1000000 budget b, le-ltb (length words) 544 l, ← count, le-ltb (length values) (2 * n) s, le-ltb (length work) (slow_size n) t) refl
+        pub at_none : slow_size n ≤ length work → Accepted ≡ verdict
+        at_none t = rw (after-asked, ← count, le-ltb (length values) (2 * n) s, le-ltb (length work) (slow_size n) t) refl
 
   -- A run that is not refused ------------------------------------------------------------------------------------------------------------
 

@@ -1,5 +1,6 @@
 -- Cells in a list of six bytes each; and which cells a cell looks at. Assumes nothing.
-use mathlib.Core.Bool.{true}
+use mathlib.Core.Bool.{Bool, true, false}
+use Rattle.std.specs.Int.{from_bool}
 use mathlib.Core.List.{List, [], ◌∷◌}
 use mathlib.Core.Path.{◌≡◌, refl, sym, ◌∙◌, ap}
 use Prim.Native.Nat.{ℕ, zero, suc, ◌+◌, ◌*◌, ◌<◌, ◌≤◌}
@@ -20,6 +21,12 @@ use Rattle.laws.specs.Circuit.Unique.{feeds}
 use Rattle.laws.specs.NetlistFile.Passed.{length-cells}
 use Rattle.laws.specs.NetlistFile.CellBytes.{cell-of}
 use Rattle.slow.specs.Ring.{net_of, Sees}
+
+-- a truth as a number, as the conversion gives it
+pub truth : (b : Bool) → from_bool b ≡ bit b
+unfolding bit
+truth true = refl
+truth false = refl
 
 pub net-length : (cells : List ℕ) (n : ℕ) → length (net_of cells n) ≡ n
 net-length cells n = length-cells in_list cells 0 n

@@ -1,17 +1,18 @@
 -- Words in rings: what a word that is put in leaves of the others; and what the rings keep when a cell more has been evaluated, and at the next instant.
 -- Assumes nothing.
 use mathlib.Core.Bool.{Bool, true, false}
-use mathlib.Core.List.{List}
+use mathlib.Core.List.{List, ◌++◌}
 use mathlib.Core.Logic.{◌⊎◌, inl, inr, ⊎_elim}
 use mathlib.Core.Path.{◌≡◌, refl, sym, ap, ◌∙◌}
 use Prim.Native.Nat.{ℕ, suc, ◌+◌, ◌-◌, ◌*◌, ◌%◌, ◌<◌, ◌≤◌}
 use native.Mathlib.Nat.{eq-or-lt_of_le, le_of_suc-le-suc}
 use native.Mathlib.Omega.{arith}
-use lib.ListN.{length}
+use lib.ListN.{length, get_or, take, drop}
+use Rattle.std.proofs.lemmas.List.{length-take, length-drop, get_or-take, get_or-drop, get_or-append_right, get_or_append_left}
 use Rattle.laws.specs.Refusals.Laws.{by_le}
 use Rattle.model.specs.declared.Cell.{Cell}
 use Rattle.model.specs.declared.Merge.{Merge}
-use Rattle.model.specs.Word.{bit, put16}
+use Rattle.model.specs.Word.{bit, get16, put16}
 use Rattle.model.specs.Circuit.{cell_at, array_at, Values, element, merges}
 use Rattle.laws.specs.State.Bytes.{put16-other, length-put16, put16-same, get16-same}
 use Rattle.slow.specs.Ring.{slot, word_in, held_ring, held_code, held_of, held_word, read_word, Leaves, Seen, Kept}
@@ -71,15 +72,28 @@ leaves-more n t P Q P' Q' s s' f g a =
 pub leaves_none : (n t : ℕ) (P Q : ℕ → Type 0) (s : List ℕ) → Leaves n t P Q s s
 leaves_none n t P Q s = record { long = refl; old = λ j u m l h. refl; new = λ j m n. refl; elements = λ e l n. refl }
 
--- the elements, one after another
-pub filled_more : (n : ℕ) (s : List ℕ) (words : ℕ → ℕ) (e v : ℕ) → e < 256 → 512 * n + 512 ≤ length s → v ≡ words (16 + e)
-    → ((x : ℕ) → x < e → word_in s n x ≡ words (16 + x)) → (x : ℕ) → x < e + 1 → word_in (put16 s (slot n e) v) n x ≡ words (16 + x)
-filled_more n s words e v l room is h x lx =
-    ⊎_elim (λ (q : x ≡ e). rw q (put_same s n e v room ∙ is))
-    (λ (q : x < e). (put-element n s e 0 v l).elements x (omega arith) (λ z. omega arith) ∙ h x q) (eq-or-lt_of_le (below x lx))
-  where
-    below : (x : ℕ) → x < e + 1 → x ≤ e
-    below x o = omega arith
+-- the elements, copied from the start words into their ring, which begins at p
+module _ (s words part rest : List ℕ) (p : ℕ) (room : p + 512 ≤ length s) (long : 544 ≤ length words) (is : part ≡ take 512 (drop 32 words)) where
+  part-byte : (i : ℕ) → i < 512 → get_or (take p s ++ (part ++ rest)) (p + i) 0 ≡ get_or words (32 + i) 0
+  part-byte i l =
+      let front : length (take p s) ≡ p = omega (arith, length-take p s) in
+      let e : p + i - p ≡ i = omega arith in
+      let few : i < length part = omega (arith, ap length is, length-take 512 (drop 32 words), length-drop 32 words) in
+      let here = rw e at (get_or-append_right (take p s) (part ++ rest) p (p + i) 0 front (omega arith)) in
+      here
+      ∙ get_or_append_left part rest 0 i few
+      ∙ ap (λ (r : List ℕ). get_or r i 0) is
+      ∙ get_or-take 512 (drop 32 words) i 0 l
+      ∙ get_or-drop 32 words i 0
+
+  pub copied : (n e : ℕ) → p ≡ 512 * n → e < 256 → word_in (take p s ++ (part ++ rest)) n e ≡ get16 words (2 * (16 + e))
+  unfolding get16
+  copied n e at l =
+      let low : 512 * n + 2 * (e % 256) ≡ p + 2 * e = omega arith in
+      let high : p + 2 * e + 1 ≡ p + (2 * e + 1) = omega arith in
+      let from : 2 * (16 + e) ≡ 32 + 2 * e = omega arith in
+      let next : 32 + 2 * e + 1 ≡ 32 + (2 * e + 1) = omega arith in
+      rw (low, high, from, next, part-byte (2 * e) (omega arith), part-byte (2 * e + 1) (omega arith)) refl
 
 -- what a cell holds, as a word
 pub held-code : (m : Merge) → held_of (held_code m) ≡ m

@@ -1,4 +1,5 @@
 // A slow run of a program. Everything is checked before anything is written, because a refusal changes no lent byte.
+// Widening casts by `as` hold by computation, where a From is one more equation to rewrite by.
 ghost use Rattle.std.specs.Prelude.{◌≡◌, ◌*◌, ◌<◌, ◌≤◌, length};
 ghost use Rattle.model.specs.Circuit.{level};
 ghost use Rattle.model.specs.Refusals.{refuse, first, Accepted};
@@ -6,8 +7,9 @@ ghost use Rattle.model.specs.Calls.{overwrite, refused_answer};
 ghost use Rattle.model.specs.Gates.{end_at, slow_answer, value_bytes, slow_size, with_pulse, slow_run_checks, slow_running, slow_run_call};
 
 use crate::net::Net;
-use model::sizes::{COMPILED_MOST, LAST_INSTANT, START_WORDS};
-use model::{Answer, Checked, Options, Outcome, Refusal, refuse};
+use model::asked::check_asked;
+use model::sizes::COMPILED_MOST;
+use model::{Answer, Checked, Options, refuse};
 
 // The bytes to work in that n cells need.
 fn size(n: usize) -> usize
@@ -27,7 +29,7 @@ fn single(options: Options) -> Options
     }
 }
 
-// Refusals 19 to 21, 1 to 8, 22, 24 and 25, 13, 14.
+// Refusals 19 to 21, 1 to 8, 22, 24 and 25, 13, 14. The six are parameters of their own, as those of the call: a check reads what a run writes.
 fn check(
     options: Options,
     program: &[u8],
@@ -39,16 +41,8 @@ fn check(
     ensures { result ≡ first (slow_run_checks options program.now words.now budget values.now work.now) }
 {
     let one = single(options);
-    let checked = program::check(one, program);
-    if let Err(r) = checked {
-        return Err(r);
-    }
-    if LAST_INSTANT < budget {
-        return refuse(13, 0);
-    }
-    if words.len() < START_WORDS {
-        return refuse(14, 0);
-    }
+    program::check(one, program)?;
+    check_asked(budget, words)?;
     let n = compiler::count_cells(one, program);
     if values.len() < 2 * n {
         return refuse(14, 0);
@@ -104,8 +98,7 @@ pub fn slow_run(
     ensures values { values.new ≡ (slow_run_call options program.now words.now budget values.old work.old).values }
     ensures work { work.new ≡ (slow_run_call options program.now words.now budget values.old work.old).work }
 {
-    let checked = check(options, program, words, budget, values, work);
-    if let Err(r) = checked {
+    if let Err(r) = check(options, program, words, budget, values, work) {
         return Answer::refused(r);
     }
     run_accepted(options, program, words, budget, values, work)

@@ -9,6 +9,7 @@ ghost use Rattle.slow.specs.Ring.{cells_of, word_in, values_by, Sees, Prepared, 
 use crate::net::Net;
 use crate::{gates, ring};
 use model::Cell;
+use model::sizes::{ELEMENTS, START_WORDS, VARIABLES};
 use netlist::cells::Layout;
 
 // What stands beside a cell's value: an array's elements, what a merge and a read hold.
@@ -27,7 +28,6 @@ fn prepare(net: &Net<'_>, c: Cell, k: usize, work: &mut [u8], t: u32)
     }
     if netlist::kinds::is_merge(kind) {
         gates::hold(net, c, k, work, t);
-        return;
     }
 }
 
@@ -42,10 +42,10 @@ fn evaluate(net: &Net<'_>, memory: usize, work: &mut [u8], k: usize, t: u32) -> 
     let first = word::get16(net.words, 2 * memory);
     let v = gates::next_word(net, first, c, work, k, t);
     ring::put_word(work, k, t, v);
-    memory + (word::bit(c.kind == 40) as usize)
+    memory + usize::from(c.kind == 40)
 }
 
-// All cells at instant t.
+// All cells at instant t. The number k is that of a ring, too, and in no list of cells alone.
 fn instant(net: &Net<'_>, work: &mut [u8], t: u32)
     requires { WorksFor net.now work.old × KeptBy net.now t 0 work.old }
     ensures { KeptBy net.now t net.now.n work.new }
@@ -56,15 +56,13 @@ fn instant(net: &Net<'_>, work: &mut [u8], t: u32)
     }
 }
 
-// The start words of the elements.
+// The start words of the elements. Crate simulator's go into a state: what the two share is the one line.
 fn put_elements(net: &Net<'_>, work: &mut [u8])
     requires { (544 ≤ length net.now.words.now) × (slow_size net.now.n ≤ length work.old) }
     ensures { (e : ℕ) → e < 256 → word_in work.new net.now.n e ≡ word_at net.now.words.now (16 + e) }
 {
-    for e in 0..256 {
-        let v = word::get16(net.words, 2 * (16 + e as usize));
-        ring::put_word(work, net.n, e, v);
-    }
+    let at = ring::slot(net.n, 0);
+    work[at..at + ELEMENTS].copy_from_slice(&net.words[VARIABLES..START_WORDS]);
 }
 
 // Instants until the finish is high or the budget is used; answers the last one.

@@ -26,16 +26,13 @@ pub fn run(net: &Net<'_>, budget: u32, values: &mut [u8], work: &mut [u8]) -> An
     let t = instants::run(net, budget, work);
     answers::put_values(values, net.n, work, t);
     let last = answers::words_in(net, work, t);
-    if ring::word_at(work, net.finish, t) == 1 {
-        return Answer {
-            outcome: Outcome::Ended,
-            instant: t,
-            count: t + 1,
-            words: last,
-        };
-    }
+    let outcome = if ring::word_at(work, net.finish, t) == 1 {
+        Outcome::Ended
+    } else {
+        Outcome::Open
+    };
     Answer {
-        outcome: Outcome::Open,
+        outcome,
         instant: t,
         count: t + 1,
         words: last,

@@ -41,7 +41,7 @@ pub fn put_word(work: &mut [u8], j: usize, t: u32, v: u16)
     word::put16(work, at, v);
 }
 
-// What a cell holds, as a word.
+// What a cell holds, as a word. No `From`: it would have to stand beside Merge, in crate model, and the word is the ring's own.
 pub fn held_code(m: Merge) -> u16
     ensures { result ≡ held_code m }
 {

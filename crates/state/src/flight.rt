@@ -10,7 +10,7 @@ ghost use Rattle.state.specs.Stands.{Stands, Runs};
 use crate::wires;
 use model::sizes::{COMPACT_LEFT, STATE_LINE};
 use model::{Cell, Format};
-use netlist::cells::Layout;
+use netlist::cells::{Cells, Layout};
 
 // How many of a line's newest d inputs are 1: whole bytes, then the low bits of one more.
 fn ones(s: &[u8], k: usize, d: u8) -> u32
@@ -20,8 +20,8 @@ fn ones(s: &[u8], k: usize, d: u8) -> u32
     let at = wires::base(Format::Full, k) + STATE_LINE;
     let whole = usize::from(d / 8);
     let mut sum: u32 = 0;
-    for i in 0..whole {
-        sum += s[at + i].count_ones();
+    for byte in &s[at..at + whole] {
+        sum += byte.count_ones();
     }
     sum + (s[at + whole] % (1u8 << (d % 8))).count_ones()
 }
@@ -40,7 +40,7 @@ fn in_line(format: Format, s: &[u8], k: usize, d: u8) -> u32
     }
 }
 
-// What is in flight at cell k, which is c.
+// What is in flight at cell k, which is c. Kinds are the bytes of a netlist file.
 fn in_flight(format: Format, c: Cell, s: &[u8], k: usize) -> u32
     requires { Stands format s.now k }
     ensures { result ≡ in_flight (line_bit format s.now k c.delay) (held_at format s.now k) (remaining_at format s.now k) c }
@@ -58,14 +58,19 @@ fn in_flight(format: Format, c: Cell, s: &[u8], k: usize) -> u32
     0
 }
 
-// Of the n cells of a file.
+// Of the n cells of a file. Their places in a state are by its format, so there they are asked for by number.
 pub fn flight(format: Format, file: &[u8], n: usize, s: &[u8]) -> u32
     requires { Runs format file.now s.now × (n ≡ count_of file.now) }
     ensures { result ≡ flight format (net_of file.now) s.now }
 {
     let mut sum: u32 = 0;
-    for k in 0..n {
-        let c = netlist::cells::cell_at(file, Layout::InFile, k);
+    let cells = Cells {
+        bytes: file,
+        layout: Layout::InFile,
+        next: 0,
+        end: n,
+    };
+    for (k, c) in cells.enumerate() {
         sum += in_flight(format, c, s, k);
     }
     sum

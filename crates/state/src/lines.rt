@@ -40,15 +40,15 @@ fn shift_line(state: &mut [u8], at: usize, input: bool)
 {
     let first = at + STATE_LINE;
     let mut carry = word::bit(input);
-    for i in 0..LINE {
-        let v = 2 * u16::from(state[first + i]) + carry;
-        state[first + i] = (v % 256) as u8;
+    for byte in &mut state[first..first + LINE] {
+        let v = 2 * u16::from(*byte) + carry;
+        *byte = (v % 256) as u8;
         carry = v / 256;
     }
 }
 
-// A pulse that comes in has d instants left, one on its way an instant less. One write, whatever comes in, so that it is compiled without
-// branches: pulses come at instants that no branch foretells.
+// A pulse that comes in has d instants left, one on its way an instant less; `input` is the bit that comes in. One write, whatever comes in, so that it is
+// compiled without branches: pulses come at instants that no branch foretells.
 fn count_down(state: &mut [u8], i: usize, d: u8, input: bool)
     requires { i < length state.old }
     ensures { state.new ≡ set state.old i (pick input d (get_or state.old i 0 - 1)) }
@@ -78,7 +78,7 @@ pub fn is_crowded(format: Format, c: Cell, state: &[u8], k: usize) -> bool
     match format {
         Format::Full => false,
         Format::Compact => {
-            let x = wires::is_high(format, state, c.a as usize);
+            let x = wires::is_high(format, state, usize::from(c.a));
             x & (1 < state[at + COMPACT_LEFT])
         }
     }

@@ -10,10 +10,10 @@ ghost use Rattle.state.specs.Stands.{Stands, Runs};
 use crate::{flight, wires};
 use model::sizes::{COMPACT_LEFT, LINE, STATE_LINE};
 use model::{Cell, Format};
-use netlist::cells::Layout;
+use netlist::cells::{Cells, Layout};
 use netlist::header::Header;
 
-// Whether n bytes from i on are zero.
+// Whether n bytes from i on are zero. netlist's zero_from asks it of a block's end: what the two share is the one line.
 fn all_zero(s: &[u8], i: usize, n: usize) -> bool
     requires { i + n ≤ length s.now }
     ensures { result ≡ all_zero (take n (drop i s.now)) }
@@ -21,7 +21,7 @@ fn all_zero(s: &[u8], i: usize, n: usize) -> bool
     s[i..i + n].iter().all(|b| *b == 0)
 }
 
-// The most instants that a start can have left, with pulses of this length; any other cell has none.
+// The most instants that a start can have left, with pulses of this length; any other cell has none. Kinds are the bytes of a netlist file.
 fn most_left(pulse: u8, c: Cell) -> u8
     ensures { result ≡ pick (eqb c.kind 32) (pulse - 1) 0 }
 {
@@ -71,12 +71,18 @@ fn cell_sound(format: Format, pulse: u8, c: Cell, s: &[u8], k: usize) -> bool
     values & (held & line)
 }
 
+// A state's cells go by number, as in crate::flight.
 fn cells_sound(format: Format, file: &[u8], h: Header, s: &[u8]) -> bool
     requires { Runs format file.now s.now × (h ≡ header_of file.now) }
     ensures { result ≡ cells_sound format (pulse_of file.now) (cells_of file.now) s.now 0 }
 {
-    for k in 0..h.count {
-        let c = netlist::cells::cell_at(file, Layout::InFile, k);
+    let cells = Cells {
+        bytes: file,
+        layout: Layout::InFile,
+        next: 0,
+        end: h.count,
+    };
+    for (k, c) in cells.enumerate() {
         if !cell_sound(format, h.pulse, c, s, k) {
             return false;
         }

@@ -1,6 +1,7 @@
 // One cell's bytes in a state: where they stand, its values, its held bits; and where an element's word stands.
-// Each contract is an equation with model/State; the cell stands in the state. Format, bytes and cell are parameters of their own, and kinds
-// are numbers: crate simulator calls these so.
+// Each contract is an equation with model/State; the cell stands in the state. Format, bytes and cell are parameters of their own: readers are lent the
+// bytes and writers write them, so that a struct of the three would be two, and a step looks at two or three cells of one state. A kind is the byte that a
+// netlist file has.
 ghost use Rattle.std.specs.Prelude.{◌≡◌, not, ◌&&◌, ◌+◌, ◌*◌, ◌<◌, ◌≤◌};
 ghost use Rattle.model.specs.Word.{pick, bit, element_of};
 ghost use Rattle.model.specs.Circuit.{high, remaining_step, step_of};
@@ -9,7 +10,7 @@ ghost use Rattle.model.specs.NetlistFile.{cell_limit};
 ghost use Rattle.state.specs.Stands.{Stands};
 
 use model::sizes::{COMPACT_CELL, COMPACT_LEFT, STATE_CELL, STATE_HEADER, STATE_LINE};
-use model::{Format, Merge, Merged};
+use model::{Format, Merge};
 
 // How many bytes a cell has.
 pub fn cell_size(format: Format) -> usize
@@ -52,7 +53,7 @@ pub fn is_high(format: Format, state: &[u8], k: usize) -> bool
     now_at(format, state, k) == 1
 }
 
-// A wire was high an instant ago and is so no more.
+// A wire was high an instant ago and is so no more. Crate slow asks the same of its rings; all that the two share is the last line.
 pub fn has_fallen(format: Format, state: &[u8], k: usize) -> bool
     requires { Stands format state.now k }
     ensures { result ≡ high (before_at format state.now k) && not (high (now_at format state.now k)) }
@@ -100,25 +101,14 @@ pub fn held_bits(m: Merge) -> u32
     u32::from(m.a) + u32::from(m.b)
 }
 
-// One instant of a merge of this kind with inputs a and b, which put out `was` an instant ago; with pulses of this length.
-pub fn merge_step(pulse: u8, kind: u8, was: bool, held: Merge, a: bool, b: bool) -> Merged
-    ensures { result ≡ step_of pulse kind was held a b }
-{
-    let one = pulse == 1;
-    if kind == 39 {
-        return held.step_call(one, was, a, b);
-    }
-    held.step(one, was, a, b)
-}
-
-// The output of a merge of this kind with inputs a and b.
+// The output of a merge of this kind with inputs a and b, which the caller has read: so they are parameters beside the cell, and no cell is.
 pub fn merged(format: Format, state: &[u8], k: usize, pulse: u8, kind: u8, a: bool, b: bool) -> u16
     requires { Stands format state.now k }
     ensures { result ≡ bit (step_of pulse kind (high (before_at format state.now k)) (held_at format state.now k) a b).out }
 {
     let was = before_at(format, state, k) == 1;
     let held = held_at(format, state, k);
-    let m = merge_step(pulse, kind, was, held, a, b);
+    let m = held.step_of(pulse, kind, was, a, b);
     word::bit(m.out)
 }
 

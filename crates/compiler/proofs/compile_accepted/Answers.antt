@@ -1,23 +1,14 @@
 -- `compile_accepted` meets its contract. Assumes nothing.
-use mathlib.Core.Path.{sym}
-use native.Mathlib.Omega.{arith}
-use Rattle.laws.specs.Program.Passed.{accepted-pulse}
-use Rattle.compiler.proofs.Call.{file-size, list-room, file-put}
+use mathlib.Core.Path.{sym, ◌∙◌}
+use Rattle.compiler.proofs.Call.{compile-accepted, written-ok, written-count}
 use Rattle.compiler.proofs.compile_accepted.Goals as goal
 
-pub put_file-requires : goal.put_file-requires
-put_file-requires c =
-    let options = c.args.options in
-    let pre = c.requires in
-    let made = c.list_accepted-made.ensures in
-    rw (c.from-n.ensures, c.from.ensures)
-    (omega (arith, file-size options _ made, pre.1), list-room options _ made pre.0 c.list_accepted-made.auto.cells, omega (arith, (accepted-pulse options _ pre.0).1))
+pub unwrap-requires : goal.unwrap-requires
+unwrap-requires c =
+    let told = compile-accepted c.args.options _ c.args.netlist.now c.requires.0 c.requires.1 in
+    written-ok (c.compile.ensures.answer ∙ sym told.0)
 
 pub returns : goal.returns
 returns c =
-    let options = c.args.options in
-    let pre = c.requires in
-    let made = c.list_accepted-made.ensures in
-    let size = file-size options _ made in
-    rw c.from-n.ensures
-    (record { length = sym size; lent = file-put options _ made _ (omega (arith, size, pre.1)) (rw (c.from-n.ensures, c.from.ensures) at c.put_file.ensures) })
+    let told = compile-accepted c.args.options _ c.args.netlist.now c.requires.0 c.requires.1 in
+    record { length = written-count (c.compile.ensures.answer ∙ sym told.0) c.unwrap.ensures; lent = c.compile.ensures.lent ∙ sym told.1 }

@@ -28,4 +28,4 @@ put_file-finish-requires c = (
 pub returns : goal.returns
 returns c =
     let clauses = compile-done c.args.options _ c.in_ok-told.ensures.0
-    c.count_main-n.ensures.cells _ (omega (arith, c.if-file-count.false)) c.put_file-finish.ensures.finish c.put_file-finish.ensures.lent in record { answer = clauses.0; lent = clauses.1 }
+    c.count_main-n.ensures.cells _ (omega (arith, c.if-file-count.false)) c.put_file-finish.ensures.finish c.put_file-finish.ensures.lent in rw c.blocks_for-count.ensures record { answer = clauses.0; lent = clauses.1 }

@@ -27,7 +27,7 @@ write_file-requires c =
     let parts = args.parts.now in
     let e = sym c.check_parts.ensures ∙ c.in_ok-check_parts.was in
     let made = put-netlist.ensures _ (given args.options lengths pulses parts e) in
-    (room args.options lengths pulses parts e made put-netlist.auto.cells, pulse-low args.options lengths pulses parts e (c.from.ensures ∙ c.pulse.ensures))
+    rw c.from.ensures (room args.options lengths pulses parts e made put-netlist.auto.cells, pulse-low args.options lengths pulses parts e (c.from-2.ensures ∙ c.pulse.ensures))
 
 pub returns : goal.returns
 returns c =
@@ -38,4 +38,4 @@ returns c =
     let parts = args.parts.now in
     let e = sym c.check_parts.ensures ∙ c.in_ok-check_parts.was in
     let made = put-netlist.ensures _ (given args.options lengths pulses parts e) in
-    rw (join-writes args.options lengths pulses parts e made args.netlist.now (c.from.ensures ∙ c.pulse.ensures)) c.write_file.ensures
+    rw (join-writes args.options lengths pulses parts e made args.netlist.now (c.from-2.ensures ∙ c.pulse.ensures)) (rw c.from.ensures at c.write_file.ensures)

@@ -13,7 +13,6 @@ put_chain-joined-requires c =
     let pre = c.requires in
     let room = joining-room _ _ _ _ loop.invariant (omega arith) in
     record {
-      few = pre.few;
       mark = pre.mark;
       first = pre.first;
       room = omega (arith, room, pre.room, loop.invariant.same);
@@ -21,7 +20,7 @@ put_chain-joined-requires c =
     }
 
 pub loop-x-preserved : goal.loop-x-preserved
-loop-x-preserved c = rw c.from-at.ensures (joining-more _ _ _ _ c.loop-x.invariant (omega arith) c.put_chain-joined.ensures)
+loop-x-preserved c = rw c.from.ensures (joining-more _ _ _ _ c.loop-x.invariant (omega arith) c.put_chain-joined.ensures)
 
 pub returns : goal.returns
 returns c = joining-end _ _ _ _ c.loop-x.invariant (omega (arith, c.requires.first))

@@ -4,4 +4,4 @@ use Rattle.model.specs.Program.{node_count}
 use Rattle.compiler.proofs.walk.+put_expr.Given as goal
 
 abbrev pub decreases-put_expr : goal.decreases-put_expr
-decreases-put_expr l = node_count l.known.now.tree.program.now - l.i
+decreases-put_expr g l = node_count l.tree.now.program.now - l.i

@@ -6,6 +6,7 @@
 -- A sequence: P, and from its finish on Q. Assumes nothing.
 -- A node: its statement by its kind. Assumes nothing.
 -- A while: its switches, P, the 35 of start and P's finish, and the delay that it feeds. Assumes nothing.
+use mathlib.Core.Logic.{inl}
 use Prim.Native.Nat.{◌+◌, ◌≤◌}
 use Rattle.model.specs.Program.{ok, tick, assign, assign_elem, loop, exit, call, stmt_at}
 use native.Mathlib.Omega.{arith}
@@ -30,45 +31,45 @@ put_if-put_own-own-requires t c =
 pub put_if-put_switches-switch-requires : goal.put_if-put_switches-switch-requires
 put_if-put_switches-switch-requires t c =
     let pre = c.requires in
-    rw c.put_own-own.auto.cells (pre.0, if-switches pre.1)
+    rw c.put_own-own.auto.cells (pre.0, if-switches pre.1, inl tt)
 
 pub put_if-overflow_add-when_true : goal.put_if-overflow_add-when_true
 put_if-overflow_add-when_true t c =
-    let low : c.put_switches-switch.result + 2 ≤ 627 = switch-low (if-switches c.requires.1) c.put_switches-switch.ensures in
+    let low : c.put_switches-switch.result + 2 ≤ 7043 = switch-low (if-switches c.requires.1) (c.put_switches-switch.ensures _ refl) in
     omega (arith, low)
 
 pub put_if-overflow_add-when_true-2 : goal.put_if-overflow_add-when_true-2
 put_if-overflow_add-when_true-2 t c =
-    let low : c.put_switches-switch.result + 2 ≤ 627 = switch-low (if-switches c.requires.1) c.put_switches-switch.ensures in
+    let low : c.put_switches-switch.result + 2 ≤ 7043 = switch-low (if-switches c.requires.1) (c.put_switches-switch.ensures _ refl) in
     omega (arith, low)
 
 pub put_if-put_stmt-p-requires : goal.put_if-put_stmt-p-requires
 put_if-put_stmt-p-requires t c =
     let pre = c.requires in
     rw (c.put_switches-switch.auto.cells, c.put_own-own.auto.cells)
-    (omega arith, (pre.0, if-first pre.1 c.put_own-own.ensures c.put_switches-switch.ensures, pre.3))
+    (omega arith, (pre.0, if-first pre.1 c.put_own-own.ensures (c.put_switches-switch.ensures _ refl), pre.3))
 
 pub put_if-overflow_add-when_false : goal.put_if-overflow_add-when_false
 put_if-overflow_add-when_false t c =
-    let low : c.put_switches-switch.result + 2 ≤ 627 = switch-low (if-switches c.requires.1) c.put_switches-switch.ensures in
+    let low : c.put_switches-switch.result + 2 ≤ 7043 = switch-low (if-switches c.requires.1) (c.put_switches-switch.ensures _ refl) in
     omega (arith, low)
 
 pub put_if-put_stmt-q-requires : goal.put_if-put_stmt-q-requires
 put_if-put_stmt-q-requires t c =
     let pre = c.requires in
     rw (c.put_stmt-p.auto.cells, c.put_switches-switch.auto.cells, c.put_own-own.auto.cells)
-    (omega (arith, pre.2), (pre.0, if-second pre.1 c.put_own-own.ensures c.put_switches-switch.ensures c.put_stmt-p.ensures.done, c.put_stmt-p.ensures.outs.same ∙ pre.3))
+    (omega (arith, pre.2), (pre.0, if-second pre.1 c.put_own-own.ensures (c.put_switches-switch.ensures _ refl) c.put_stmt-p.ensures.done, c.put_stmt-p.ensures.outs.same ∙ pre.3))
 
 pub put_if-put-requires : goal.put_if-put-requires
 put_if-put-requires t c =
     let ready = c.requires.1 in
     rw (c.put_stmt-q.auto.cells, c.put_stmt-p.auto.cells, c.put_switches-switch.auto.cells, c.put_own-own.auto.cells)
-    (if-merge ready c.put_own-own.ensures c.put_switches-switch.ensures c.put_stmt-p.ensures.done c.put_stmt-q.ensures.done)
+    (if-merge ready c.put_own-own.ensures (c.put_switches-switch.ensures _ refl) c.put_stmt-p.ensures.done c.put_stmt-q.ensures.done)
 
 pub put_if-overflow_add-result : goal.put_if-overflow_add-result
 put_if-overflow_add-result t c =
     let ready = c.requires.1 in
-    omega (arith, ready.small, if-merge ready c.put_own-own.ensures c.put_switches-switch.ensures c.put_stmt-p.ensures.done c.put_stmt-q.ensures.done)
+    omega (arith, ready.small, if-merge ready c.put_own-own.ensures (c.put_switches-switch.ensures _ refl) c.put_stmt-p.ensures.done c.put_stmt-q.ensures.done)
 
 pub put_if-shape_of-cells : goal.put_if-shape_of-cells
 put_if-shape_of-cells t c =
@@ -78,7 +79,7 @@ pub put_if-returns : goal.put_if-returns
 put_if-returns t c =
     let ready = c.requires.1 in
     let o = c.put_own-own.ensures in
-    let s = c.put_switches-switch.ensures in
+    let s = (c.put_switches-switch.ensures _ refl) in
     let u = c.put_stmt-p.ensures in
     let v = c.put_stmt-q.ensures in
     record { done = if-done ready.apart o s u.done v.done c.put.ensures; outs = if-opened o s u.done u.outs v.outs }
@@ -147,37 +148,37 @@ put_par-returns t c =
 pub put_repeat-put_switches-switch-requires : goal.put_repeat-put_switches-switch-requires
 put_repeat-put_switches-switch-requires t c =
     let pre = c.requires in
-    (pre.0, repeat-switches pre.1)
+    (pre.0, repeat-switches pre.1, inl tt)
 
 pub put_repeat-overflow_add-start : goal.put_repeat-overflow_add-start
 put_repeat-overflow_add-start t c =
-    let low : c.put_switches-switch.result + 2 ≤ 627 = switch-low (repeat-switches c.requires.1) c.put_switches-switch.ensures in
+    let low : c.put_switches-switch.result + 2 ≤ 7043 = switch-low (repeat-switches c.requires.1) (c.put_switches-switch.ensures _ refl) in
     omega (arith, low)
 
 pub put_repeat-overflow_add-start-2 : goal.put_repeat-overflow_add-start-2
 put_repeat-overflow_add-start-2 t c =
-    let low : c.put_switches-switch.result + 2 ≤ 627 = switch-low (repeat-switches c.requires.1) c.put_switches-switch.ensures in
+    let low : c.put_switches-switch.result + 2 ≤ 7043 = switch-low (repeat-switches c.requires.1) (c.put_switches-switch.ensures _ refl) in
     omega (arith, low)
 
 pub put_repeat-overflow_add-switch : goal.put_repeat-overflow_add-switch
 put_repeat-overflow_add-switch t c =
-    let low : c.put_switches-switch.result + 2 ≤ 627 = switch-low (repeat-switches c.requires.1) c.put_switches-switch.ensures in
+    let low : c.put_switches-switch.result + 2 ≤ 7043 = switch-low (repeat-switches c.requires.1) (c.put_switches-switch.ensures _ refl) in
     omega (arith, low)
 
 pub put_repeat-put-requires : goal.put_repeat-put-requires
 put_repeat-put-requires t c =
-    let body = repeat-body c.requires.1 c.put_switches-switch.ensures in
+    let body = repeat-body c.requires.1 (c.put_switches-switch.ensures _ refl) in
     rw c.put_switches-switch.auto.cells (omega (arith, body.room))
 
 pub put_repeat-overflow_add-body-2 : goal.put_repeat-overflow_add-body-2
 put_repeat-overflow_add-body-2 t c =
-    let low : c.put_switches-switch.result + 2 ≤ 627 = switch-low (repeat-switches c.requires.1) c.put_switches-switch.ensures in
+    let low : c.put_switches-switch.result + 2 ≤ 7043 = switch-low (repeat-switches c.requires.1) (c.put_switches-switch.ensures _ refl) in
     omega (arith, low)
 
 pub put_repeat-put_stmt-p-requires : goal.put_repeat-put_stmt-p-requires
 put_repeat-put_stmt-p-requires t c =
     let pre = c.requires in
-    rw (c.put.auto.cells, c.put_switches-switch.auto.cells) (omega arith, (pre.0, repeat-body pre.1 c.put_switches-switch.ensures, pre.2))
+    rw (c.put.auto.cells, c.put_switches-switch.auto.cells) (omega arith, (pre.0, repeat-body pre.1 (c.put_switches-switch.ensures _ refl), pre.2))
 
 pub put_repeat-put-requires-2 : goal.put_repeat-put-requires-2
 unfolding delay_count
@@ -188,7 +189,7 @@ put_repeat-put-requires-2 t c =
 pub put_repeat-returns : goal.put_repeat-returns
 put_repeat-returns t c =
     let pre = c.requires in
-    let s = c.put_switches-switch.ensures in
+    let s = (c.put_switches-switch.ensures _ refl) in
     let u = c.put_stmt-p.ensures in
     record { done = repeat-done pre.1.apart s c.put.ensures u.done c.put-2.ensures; outs = repeat-opened s u.outs }
 
@@ -230,56 +231,56 @@ put_stmt-returns-then-kind-eq17 t c =
     let u = c.put_tick.ensures in
     record { done = rw tick-of (tick-done ready.apart u.cells u.place); outs = rw tick-of (opened-none (tick _) refl refl) }
 
-pub put_stmt-overflow_add-i1 : goal.put_stmt-overflow_add-i1
-put_stmt-overflow_add-i1 t c =
+pub put_stmt-overflow_add-first : goal.put_stmt-overflow_add-first
+put_stmt-overflow_add-first t c =
     let here = c.stmt_node-node.ensures.here c.if-kind-eq16.false in
     omega (arith, here.0, c.requires.0.short)
 
-pub put_stmt-next-i2-requires : goal.put_stmt-next-i2-requires
-put_stmt-next-i2-requires t c = omega (arith, c.requires.0.short)
+pub put_stmt-next-second-requires : goal.put_stmt-next-second-requires
+put_stmt-next-second-requires t c = omega (arith, c.requires.0.short)
 
 pub put_stmt-put_assign-requires : goal.put_stmt-put_assign-requires
 put_stmt-put_assign-requires t c =
-    let n = inner-stmt c.requires.0 c.stmt_node-node.ensures c.if-kind-eq16.false c.next-i2.ensures in
+    let n = inner-stmt c.requires.0 c.stmt_node-node.ensures c.if-kind-eq16.false c.next-second.ensures in
     let pre = c.requires in
     (pre.0, rw (assign-read n c.in-18.is) at pre.1)
 
 pub put_stmt-put_seq-requires : goal.put_stmt-put_seq-requires
 put_stmt-put_seq-requires t c =
-    let n = inner-stmt c.requires.0 c.stmt_node-node.ensures c.if-kind-eq16.false c.next-i2.ensures in
+    let n = inner-stmt c.requires.0 c.stmt_node-node.ensures c.if-kind-eq16.false c.next-second.ensures in
     let pre = c.requires in
     (omega (arith, n.here), (pre.0, rw (seq-read n c.in-19.is) at pre.1, second-later n, pre.2))
 
 pub put_stmt-put_par-requires : goal.put_stmt-put_par-requires
 put_stmt-put_par-requires t c =
-    let n = inner-stmt c.requires.0 c.stmt_node-node.ensures c.if-kind-eq16.false c.next-i2.ensures in
+    let n = inner-stmt c.requires.0 c.stmt_node-node.ensures c.if-kind-eq16.false c.next-second.ensures in
     let pre = c.requires in
     (omega (arith, n.here), (pre.0, rw (par-read n c.in-20.is) at pre.1, second-later n, pre.2))
 
-pub put_stmt-next-i3-requires : goal.put_stmt-next-i3-requires
-put_stmt-next-i3-requires t c = omega (arith, c.requires.0.short)
+pub put_stmt-next-third-requires : goal.put_stmt-next-third-requires
+put_stmt-next-third-requires t c = omega (arith, c.requires.0.short)
 
 pub put_stmt-put_if-requires : goal.put_stmt-put_if-requires
 put_stmt-put_if-requires t c =
-    let n = inner-stmt c.requires.0 c.stmt_node-node.ensures c.if-kind-eq16.false c.next-i2.ensures in
+    let n = inner-stmt c.requires.0 c.stmt_node-node.ensures c.if-kind-eq16.false c.next-second.ensures in
     let pre = c.requires in
-    (omega (arith, n.here, second-later n), (pre.0, rw (ite-read n _ c.next-i3.ensures c.in-21.is) at pre.1, past-later _ _ _ (n.laid.each _) _ c.next-i3.ensures, pre.2))
+    (omega (arith, n.here, second-later n), (pre.0, rw (ite-read n _ c.next-third.ensures c.in-21.is) at pre.1, past-later _ _ _ (n.laid.each _) _ c.next-third.ensures, pre.2))
 
 pub put_stmt-put_while-requires : goal.put_stmt-put_while-requires
 put_stmt-put_while-requires t c =
-    let n = inner-stmt c.requires.0 c.stmt_node-node.ensures c.if-kind-eq16.false c.next-i2.ensures in
+    let n = inner-stmt c.requires.0 c.stmt_node-node.ensures c.if-kind-eq16.false c.next-second.ensures in
     let pre = c.requires in
     (omega (arith, n.here, second-later n), (pre.0, rw (while-read n c.in-22.is) at pre.1, pre.2))
 
 pub put_stmt-put_element-requires : goal.put_stmt-put_element-requires
 put_stmt-put_element-requires t c =
-    let n = inner-stmt c.requires.0 c.stmt_node-node.ensures c.if-kind-eq16.false c.next-i2.ensures in
+    let n = inner-stmt c.requires.0 c.stmt_node-node.ensures c.if-kind-eq16.false c.next-second.ensures in
     let pre = c.requires in
     (pre.0, rw (assign-elem-read n c.in-24.is) at pre.1)
 
 pub put_stmt-put_loop-requires : goal.put_stmt-put_loop-requires
 put_stmt-put_loop-requires t c =
-    let n = inner-stmt c.requires.0 c.stmt_node-node.ensures c.if-kind-eq16.false c.next-i2.ensures in
+    let n = inner-stmt c.requires.0 c.stmt_node-node.ensures c.if-kind-eq16.false c.next-second.ensures in
     let loop-of : stmt_at c.args.known.now.tree.program.now c.args.i ≡ loop c.stmt_node-node.result.delay (stmt_at c.args.known.now.tree.program.now (c.args.i + 1)) = at-loop _ _ n.here _ n.node c.in-25.is in
     let pre = c.requires in
     (omega (arith, n.here), (pre.0, rw loop-of at pre.1, pre.2))
@@ -287,7 +288,7 @@ put_stmt-put_loop-requires t c =
 pub put_stmt-put_exit-requires : goal.put_stmt-put_exit-requires
 unfolding all_exits
 put_stmt-put_exit-requires t c =
-    let n = inner-stmt c.requires.0 c.stmt_node-node.ensures c.if-kind-eq16.false c.next-i2.ensures in
+    let n = inner-stmt c.requires.0 c.stmt_node-node.ensures c.if-kind-eq16.false c.next-second.ensures in
     let exit-of : stmt_at c.args.known.now.tree.program.now c.args.i ≡ exit = at_exit _ _ n.here _ n.node c.in-26.is in
     let pre = c.requires in
     let ready = rw exit-of at pre.1 in
@@ -295,14 +296,14 @@ put_stmt-put_exit-requires t c =
 
 pub put_stmt-put_call-requires : goal.put_stmt-put_call-requires
 put_stmt-put_call-requires t c =
-    let n = inner-stmt c.requires.0 c.stmt_node-node.ensures c.if-kind-eq16.false c.next-i2.ensures in
+    let n = inner-stmt c.requires.0 c.stmt_node-node.ensures c.if-kind-eq16.false c.next-second.ensures in
     let call-of : stmt_at c.args.known.now.tree.program.now c.args.i ≡ call c.stmt_node-node.result.delay c.stmt_node-node.result.n = at_call _ _ n.here _ n.node c.in-27.is in
     call_fits (rw call-of at c.requires.1)
 
 pub put_stmt-put_repeat-requires : goal.put_stmt-put_repeat-requires
 put_stmt-put_repeat-requires t c =
     let here = c.stmt_node-node.ensures.here c.if-kind-eq16.false in
-    let n = inner-stmt c.requires.0 c.stmt_node-node.ensures c.if-kind-eq16.false c.next-i2.ensures in
+    let n = inner-stmt c.requires.0 c.stmt_node-node.ensures c.if-kind-eq16.false c.next-second.ensures in
     let last_of : 23 ≤ c.stmt_node-node.result.kind = last-kind (omega (arith, here.1, c.if-kind-eq17.false)) c.in_default.in_default-own.rest.0.0.0.0 in
     let pre = c.requires in
     (omega (arith, n.here, second-later n), (pre.0, rw (repeat_read n last_of c.in_default.in_default-own.rest.0.0.0.1 c.in_default.in_default-own.rest.0.0.1 c.in_default.in_default-own.rest.0.1 c.in_default.in_default-own.rest.1) at pre.1, pre.2))
@@ -310,44 +311,44 @@ put_stmt-put_repeat-requires t c =
 pub put_stmt-returns-in-18 : goal.put_stmt-returns-in-18
 unfolding exit_count exit_wires
 put_stmt-returns-in-18 t c =
-    let n = inner-stmt c.requires.0 c.stmt_node-node.ensures c.if-kind-eq16.false c.next-i2.ensures in
+    let n = inner-stmt c.requires.0 c.stmt_node-node.ensures c.if-kind-eq16.false c.next-second.ensures in
     record { done = rw (assign-read n c.in-18.is) (c.put_assign.ensures _); outs = rw (assign-read n c.in-18.is) (opened-none (assign _ _ _) refl refl) }
 
 pub put_stmt-returns-in-19 : goal.put_stmt-returns-in-19
 put_stmt-returns-in-19 t c =
-    let n = inner-stmt c.requires.0 c.stmt_node-node.ensures c.if-kind-eq16.false c.next-i2.ensures in
+    let n = inner-stmt c.requires.0 c.stmt_node-node.ensures c.if-kind-eq16.false c.next-second.ensures in
     record { done = rw (seq-read n c.in-19.is) c.put_seq.ensures.done; outs = rw (seq-read n c.in-19.is) c.put_seq.ensures.outs }
 
 pub put_stmt-returns-in-20 : goal.put_stmt-returns-in-20
 put_stmt-returns-in-20 t c =
-    let n = inner-stmt c.requires.0 c.stmt_node-node.ensures c.if-kind-eq16.false c.next-i2.ensures in
+    let n = inner-stmt c.requires.0 c.stmt_node-node.ensures c.if-kind-eq16.false c.next-second.ensures in
     record { done = rw (par-read n c.in-20.is) c.put_par.ensures.done; outs = rw (par-read n c.in-20.is) c.put_par.ensures.outs }
 
 pub put_stmt-returns-in-21 : goal.put_stmt-returns-in-21
 put_stmt-returns-in-21 t c =
-    let n = inner-stmt c.requires.0 c.stmt_node-node.ensures c.if-kind-eq16.false c.next-i2.ensures in
-    record { done = rw (ite-read n _ c.next-i3.ensures c.in-21.is) c.put_if.ensures.done; outs = rw (ite-read n _ c.next-i3.ensures c.in-21.is) c.put_if.ensures.outs }
+    let n = inner-stmt c.requires.0 c.stmt_node-node.ensures c.if-kind-eq16.false c.next-second.ensures in
+    record { done = rw (ite-read n _ c.next-third.ensures c.in-21.is) c.put_if.ensures.done; outs = rw (ite-read n _ c.next-third.ensures c.in-21.is) c.put_if.ensures.outs }
 
 pub put_stmt-returns-in-22 : goal.put_stmt-returns-in-22
 put_stmt-returns-in-22 t c =
-    let n = inner-stmt c.requires.0 c.stmt_node-node.ensures c.if-kind-eq16.false c.next-i2.ensures in
+    let n = inner-stmt c.requires.0 c.stmt_node-node.ensures c.if-kind-eq16.false c.next-second.ensures in
     record { done = rw (while-read n c.in-22.is) c.put_while.ensures.done; outs = rw (while-read n c.in-22.is) c.put_while.ensures.outs }
 
 pub put_stmt-returns-in-24 : goal.put_stmt-returns-in-24
 unfolding exit_count exit_wires
 put_stmt-returns-in-24 t c =
-    let n = inner-stmt c.requires.0 c.stmt_node-node.ensures c.if-kind-eq16.false c.next-i2.ensures in
+    let n = inner-stmt c.requires.0 c.stmt_node-node.ensures c.if-kind-eq16.false c.next-second.ensures in
     record { done = rw (assign-elem-read n c.in-24.is) (c.put_element.ensures _); outs = rw (assign-elem-read n c.in-24.is) (opened-none (assign_elem _ _ _ _) refl refl) }
 
 pub put_stmt-returns-in-25 : goal.put_stmt-returns-in-25
 put_stmt-returns-in-25 t c =
-    let n = inner-stmt c.requires.0 c.stmt_node-node.ensures c.if-kind-eq16.false c.next-i2.ensures in
+    let n = inner-stmt c.requires.0 c.stmt_node-node.ensures c.if-kind-eq16.false c.next-second.ensures in
     let loop-of : stmt_at c.args.known.now.tree.program.now c.args.i ≡ loop c.stmt_node-node.result.delay (stmt_at c.args.known.now.tree.program.now (c.args.i + 1)) = at-loop _ _ n.here _ n.node c.in-25.is in
     record { done = rw loop-of c.put_loop.ensures.done; outs = rw loop-of c.put_loop.ensures.outs }
 
 pub put_stmt-returns-in-26 : goal.put_stmt-returns-in-26
 put_stmt-returns-in-26 t c =
-    let n = inner-stmt c.requires.0 c.stmt_node-node.ensures c.if-kind-eq16.false c.next-i2.ensures in
+    let n = inner-stmt c.requires.0 c.stmt_node-node.ensures c.if-kind-eq16.false c.next-second.ensures in
     let exit-of : stmt_at c.args.known.now.tree.program.now c.args.i ≡ exit = at_exit _ _ n.here _ n.node c.in-26.is in
     let u = c.put_exit.ensures in
     record { done = rw exit-of (exit-done u.place); outs = rw exit-of u.outs }
@@ -355,7 +356,7 @@ put_stmt-returns-in-26 t c =
 pub put_stmt-returns-in-27 : goal.put_stmt-returns-in-27
 unfolding exit_count exit_wires
 put_stmt-returns-in-27 t c =
-    let n = inner-stmt c.requires.0 c.stmt_node-node.ensures c.if-kind-eq16.false c.next-i2.ensures in
+    let n = inner-stmt c.requires.0 c.stmt_node-node.ensures c.if-kind-eq16.false c.next-second.ensures in
     let call-of : stmt_at c.args.known.now.tree.program.now c.args.i ≡ call c.stmt_node-node.result.delay c.stmt_node-node.result.n = at_call _ _ n.here _ n.node c.in-27.is in
     let ready = rw call-of at c.requires.1 in
     let u = c.put_call.ensures in
@@ -364,34 +365,34 @@ put_stmt-returns-in-27 t c =
 pub put_stmt-returns-in_default : goal.put_stmt-returns-in_default
 put_stmt-returns-in_default t c =
     let here = c.stmt_node-node.ensures.here c.if-kind-eq16.false in
-    let n = inner-stmt c.requires.0 c.stmt_node-node.ensures c.if-kind-eq16.false c.next-i2.ensures in
+    let n = inner-stmt c.requires.0 c.stmt_node-node.ensures c.if-kind-eq16.false c.next-second.ensures in
     let last_of : 23 ≤ c.stmt_node-node.result.kind = last-kind (omega (arith, here.1, c.if-kind-eq17.false)) c.in_default.in_default-own.rest.0.0.0.0 in
     record { done = rw (repeat_read n last_of c.in_default.in_default-own.rest.0.0.0.1 c.in_default.in_default-own.rest.0.0.1 c.in_default.in_default-own.rest.0.1 c.in_default.in_default-own.rest.1) c.put_repeat.ensures.done; outs = rw (repeat_read n last_of c.in_default.in_default-own.rest.0.0.0.1 c.in_default.in_default-own.rest.0.0.1 c.in_default.in_default-own.rest.0.1 c.in_default.in_default-own.rest.1) c.put_repeat.ensures.outs }
 
 pub put_while-put_switches-switch-requires : goal.put_while-put_switches-switch-requires
 put_while-put_switches-switch-requires t c =
     let pre = c.requires in
-    (pre.0, while-switches pre.1)
+    (pre.0, while-switches pre.1, inl tt)
 
 pub put_while-overflow_add-body-2 : goal.put_while-overflow_add-body-2
 put_while-overflow_add-body-2 t c =
-    let low : c.put_switches-switch.result + 2 ≤ 627 = switch-low (while-switches c.requires.1) c.put_switches-switch.ensures in
+    let low : c.put_switches-switch.result + 2 ≤ 7043 = switch-low (while-switches c.requires.1) (c.put_switches-switch.ensures _ refl) in
     omega (arith, low)
 
 pub put_while-overflow_add-body-3 : goal.put_while-overflow_add-body-3
 put_while-overflow_add-body-3 t c =
-    let low : c.put_switches-switch.result + 2 ≤ 627 = switch-low (while-switches c.requires.1) c.put_switches-switch.ensures in
+    let low : c.put_switches-switch.result + 2 ≤ 7043 = switch-low (while-switches c.requires.1) (c.put_switches-switch.ensures _ refl) in
     omega (arith, low)
 
 pub put_while-put_stmt-p-requires : goal.put_while-put_stmt-p-requires
 put_while-put_stmt-p-requires t c =
     let pre = c.requires in
-    rw c.put_switches-switch.auto.cells (omega arith, (pre.0, while-body pre.1 c.put_switches-switch.ensures, pre.2))
+    rw c.put_switches-switch.auto.cells (omega arith, (pre.0, while-body pre.1 (c.put_switches-switch.ensures _ refl), pre.2))
 
 pub put_while-put-requires : goal.put_while-put-requires
 put_while-put-requires t c =
     let pre = c.requires in
-    rw (c.put_stmt-p.auto.cells, c.put_switches-switch.auto.cells) (while-merge pre.1 c.put_switches-switch.ensures c.put_stmt-p.ensures.done)
+    rw (c.put_stmt-p.auto.cells, c.put_switches-switch.auto.cells) (while-merge pre.1 (c.put_switches-switch.ensures _ refl) c.put_stmt-p.ensures.done)
 
 pub put_while-put-requires-2 : goal.put_while-put-requires-2
 unfolding delay_count
@@ -401,17 +402,17 @@ put_while-put-requires-2 t c =
 
 pub put_while-overflow_add-result : goal.put_while-overflow_add-result
 put_while-overflow_add-result t c =
-    let low : c.put_switches-switch.result + 2 ≤ 627 = switch-low (while-switches c.requires.1) c.put_switches-switch.ensures in
+    let low : c.put_switches-switch.result + 2 ≤ 7043 = switch-low (while-switches c.requires.1) (c.put_switches-switch.ensures _ refl) in
     omega (arith, low)
 
 pub put_while-overflow_add-result-2 : goal.put_while-overflow_add-result-2
 put_while-overflow_add-result-2 t c =
     let ready = c.requires.1 in
-    omega (arith, ready.small, while-merge ready c.put_switches-switch.ensures c.put_stmt-p.ensures.done)
+    omega (arith, ready.small, while-merge ready (c.put_switches-switch.ensures _ refl) c.put_stmt-p.ensures.done)
 
 pub put_while-returns : goal.put_while-returns
 put_while-returns t c =
     let pre = c.requires in
-    let s = c.put_switches-switch.ensures in
+    let s = (c.put_switches-switch.ensures _ refl) in
     let u = c.put_stmt-p.ensures in
     record { done = while-done pre.1.apart s u.done c.put.ensures c.put-2.ensures; outs = while-opened s u.outs }

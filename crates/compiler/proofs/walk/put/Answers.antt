@@ -4,4 +4,4 @@ use Rattle.compiler.proofs.walk.put.Goals as goal
 
 pub returns : goal.returns
 unfolding write
-returns c = c.put_cell.ensures.put
+returns c = rw c.from.ensures at c.put_cell.ensures.put

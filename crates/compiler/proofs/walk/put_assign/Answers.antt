@@ -1,4 +1,5 @@
 -- `walk::put_assign` meets its contract. Assumes nothing.
+use mathlib.Core.Logic.{inl}
 use mathlib.Core.Path.{refl}
 use native.Mathlib.Omega.{arith}
 use Rattle.model.specs.Numbering.{delay_count}
@@ -10,16 +11,16 @@ use Rattle.compiler.proofs.walk.put_assign.Goals as goal
 pub put_expr-e-requires : goal.put_expr-e-requires
 put_expr-e-requires c =
     let pre = c.requires in
-    (pre.0, assign-expr pre.1)
+    (pre.0, assign-expr pre.1, inl tt)
 
 pub put-requires : goal.put-requires
 put-requires c =
-    rw c.put_expr-e.auto.cells (assign-cell c.requires.1 c.put_expr-e.ensures)
+    rw c.put_expr-e.auto.cells (assign-cell c.requires.1 (c.put_expr-e.ensures _ refl))
 
-pub overflow_add-e : goal.overflow_add-e
-overflow_add-e c =
+pub overflow_add-walked : goal.overflow_add-walked
+overflow_add-walked c =
     let ready = c.requires.1 in
-    omega (arith, ready.small, assign-cell ready c.put_expr-e.ensures)
+    omega (arith, ready.small, assign-cell ready (c.put_expr-e.ensures _ refl))
 
 pub put_delays-requires : goal.put_delays-requires
 unfolding delay_count assignments
@@ -29,4 +30,4 @@ put_delays-requires c =
 pub returns : goal.returns
 returns c =
     let ready = c.requires.1 in
-    λ F. assign-done ready.apart c.put_expr-e.ensures c.put.ensures c.put_delays.ensures.cells c.put_delays.ensures.marks c.put_delays.ensures.place
+    λ F. assign-done ready.apart (c.put_expr-e.ensures _ refl) c.put.ensures c.put_delays.ensures.cells c.put_delays.ensures.marks c.put_delays.ensures.place

@@ -7,7 +7,7 @@ use Rattle.compiler.proofs.walk.put_call.Goals as goal
 pub returns : goal.returns
 returns c =
     record {
-      cells = rw c.put.ensures at c.put-2.ensures;
+      cells = rw (c.from-p.ensures, c.put.ensures) at c.put-2.ensures;
       marks = marks-over c.args.marks.now _ _ c.args.at.mark c.copy_from_slice.ensures.after (omega arith) (omega (arith, c.requires.3));
       place = refl;
     }

@@ -22,36 +22,11 @@ put_arrays-requires c =
     let memories = c.put_memories in
     (omega (arith, low), omega (arith, low, C.size, memories.auto.cells), clock-twenty C.clocks, data-twenty C.walk, address-twenty C.walk)
 
-pub put-requires : goal.put-requires
-put-requires c =
-    let arrays = c.put_arrays in
-    let memories = c.put_memories in
-    omega (arith, c.requires.closing.size, arrays.auto.cells, memories.auto.cells)
-
-pub put-requires-2 : goal.put-requires-2
-put-requires-2 c =
-    let first = c.put in
-    let arrays = c.put_arrays in
-    let memories = c.put_memories in
-    omega (arith, c.requires.closing.size, first.auto.cells, arrays.auto.cells, memories.auto.cells)
-
-pub put-requires-3 : goal.put-requires-3
-put-requires-3 c =
-    let second = c.put-2 in
-    let first = c.put in
-    let arrays = c.put_arrays in
-    let memories = c.put_memories in
-    omega (arith, c.requires.closing.size, second.auto.cells, first.auto.cells, arrays.auto.cells, memories.auto.cells)
+pub put_head-requires : goal.put_head-requires
+put_head-requires c = omega (arith, c.requires.closing.size, c.put_arrays.auto.cells, c.put_memories.auto.cells)
 
 pub shape_of-cells : goal.shape_of-cells
-shape_of-cells c =
-    c.put-3.auto.cells ∙ c.put-2.auto.cells ∙ c.put.auto.cells ∙ c.put_arrays.auto.cells ∙ c.put_memories.auto.cells
+shape_of-cells c = c.put_head.auto.cells ∙ c.put_arrays.auto.cells ∙ c.put_memories.auto.cells
 
 pub returns : goal.returns
-returns c =
-    let third = c.put-3 in
-    let second = c.put-2 in
-    let first = c.put in
-    let arrays = c.put_arrays in
-    let memories = c.put_memories in
-    λ S C. made C memories.ensures arrays.ensures first.ensures second.ensures third.ensures
+returns c = λ S C. made C c.put_memories.ensures c.put_arrays.ensures c.put_head.ensures

@@ -1,6 +1,10 @@
 -- `whole::join_words` meets its contract. Assumes nothing.
-use Rattle.compiler.proofs.Assembly.{datas-ready, addresses-ready, walked}
+use native.Mathlib.Omega.{arith}
+use Rattle.compiler.proofs.Assembly.{own-marks, datas-ready, addresses-ready, walked}
 use Rattle.compiler.proofs.whole.join_words.Goals as goal
+
+pub shared_ref_as_front-own : goal.shared_ref_as_front-own
+shared_ref_as_front-own c = omega (arith, own-marks c.requires.put)
 
 pub put_ors-joined-requires : goal.put_ors-joined-requires
 put_ors-joined-requires c = datas-ready c.requires.put

@@ -1,6 +1,7 @@
 -- `whole::put_netlist` meets its contract. Assumes nothing.
 use mathlib.Core.Path.{refl, ◌∙◌}
-use Rattle.compiler.proofs.Assembly.{all-closing}
+use native.Mathlib.Omega.{arith}
+use Rattle.compiler.proofs.Assembly.{calls-told, all-closing}
 use Rattle.compiler.proofs.whole.put_netlist.Goals as goal
 
 pub put_clocks-clocks-requires : goal.put_clocks-clocks-requires
@@ -9,7 +10,7 @@ put_clocks-clocks-requires c = (c.requires, refl)
 pub put_walk-walked-requires : goal.put_walk-walked-requires
 put_walk-walked-requires c =
     let clocks = c.put_clocks-clocks in
-    rw clocks.auto.cells (c.requires, clocks.ensures.memory, clocks.ensures.told)
+    rw clocks.auto.cells (c.requires, clocks.ensures.memory, calls-told clocks.ensures.told (omega arith))
 
 pub close-requires : goal.close-requires
 close-requires c =

@@ -6,7 +6,7 @@ use Rattle.compiler.proofs.whole.put_walk.Goals as goal
 pub put_roots-end-requires : goal.put_roots-end-requires
 put_roots-end-requires c =
     let pre = c.requires in
-    walk-ready pre.0 pre.1 pre.2
+    walk-ready pre.0 pre.1 _ pre.2
 
 pub join_words-requires : goal.join_words-requires
 join_words-requires c =

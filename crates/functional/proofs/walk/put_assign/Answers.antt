@@ -1,11 +1,12 @@
 -- `walk::put_assign` meets its contract. Assumes nothing.
+use mathlib.Core.Logic.{inr}
 use mathlib.Core.Path.{refl}
 use native.Mathlib.Omega.{arith}
 use Rattle.functional.proofs.Parts.{assign-expr, assign-room, assign-done}
 use Rattle.functional.proofs.walk.put_assign.Goals as goal
 
 pub put_expr-e-requires : goal.put_expr-e-requires
-put_expr-e-requires c = (c.requires.0, assign-expr c.requires.1)
+put_expr-e-requires c = (c.requires.0, assign-expr c.requires.1, inr c.requires.1.basic)
 
 pub put-requires : goal.put-requires
 put-requires c =

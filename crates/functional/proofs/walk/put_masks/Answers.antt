@@ -1,5 +1,5 @@
 -- `walk::put_masks` meets its contract. Assumes nothing.
-use Rattle.functional.proofs.Bits.{write-three}
+use Rattle.compiler.proofs.Writes.{write-three}
 use Rattle.functional.proofs.walk.put_masks.Goals as goal
 
 pub returns : goal.returns

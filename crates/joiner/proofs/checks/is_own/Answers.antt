@@ -16,10 +16,10 @@ is_file_of-requires c =
     let options = c.args.options in
     let program = c.args.program.now in
     let accepted = c.requires.0 in
-    (c.requires.1, list-room options program list.ensures accepted list.auto.cells, some-made options program list.ensures accepted, (accepted-pulse options program accepted).0)
+    rw c.from.ensures (c.requires.1, list-room options program list.ensures accepted list.auto.cells, some-made options program list.ensures accepted, (accepted-pulse options program accepted).0)
 
 pub returns : goal.returns
 returns c =
     let args = c.args in
     let list-accepted = c.list_accepted-made in
-    own-file args.options args.program.now list-accepted.ensures args.file.now c.is_file_of.ensures
+    own-file args.options args.program.now list-accepted.ensures args.file.now (rw c.from.ensures at c.is_file_of.ensures)

@@ -20,7 +20,7 @@ put_marks-mark-requires c =
     let P = stmt_at args.program.now 0 in
     let own = own_of.ensures (pulse_of args.file.now) P pre.compiled in
     let done = put-part.ensures (pulse_of args.file.now) P own in
-    (walk-room (pre) refl done, walk-onward (pre) refl done, marks-room (pre) refl done _ refl c.put_gates.ensures.put)
+    rw (c.from.ensures, c.from-2.ensures) (walk-room (pre) refl done, walk-onward (pre) refl done, marks-room (pre) refl done _ refl c.put_gates.ensures)
 
 pub returns : goal.returns
 returns c =
@@ -31,4 +31,5 @@ returns c =
     let P = stmt_at args.program.now 0 in
     let own = own_of.ensures (pulse_of args.file.now) P pre.compiled in
     let done = put-part.ensures (pulse_of args.file.now) P own in
-    part-done (pre) refl done _ refl c.put_gates.ensures.put c.put_marks-mark.ensures.next c.put_marks-mark.ensures.put
+    let marks = rw (c.from.ensures, c.from-2.ensures) at c.put_marks-mark.ensures in
+    part-done (pre) refl done _ refl c.put_gates.ensures marks.next marks.put

@@ -2,7 +2,7 @@
 use mathlib.Core.Path.{refl, ap}
 use native.Mathlib.Omega.{arith}
 use lib.ListN.{length}
-use Rattle.compiler.proofs.Growth.{four-marks}
+use Rattle.compiler.proofs.Growth.{marks-over}
 use Rattle.joiner.proofs.Marking.{no-marks, own-marks}
 use Rattle.joiner.proofs.marks.put_gate.Goals as goal
 
@@ -12,23 +12,8 @@ returns-then-x-eq20 c =
     let none = no-marks args.delay args.n c.if-x-eq20.true in
     rw none (record { next = omega arith; put = refl })
 
-pub bounds-marks-next : goal.bounds-marks-next
-bounds-marks-next c =
-    let args = c.args in
-    omega (arith, c.requires.0, ap length (own-marks args.delay args.n c.if-x-eq20.false))
-
-pub bounds-marks-next-2 : goal.bounds-marks-next-2
-bounds-marks-next-2 c =
-    let args = c.args in
-    omega (arith, c.requires.0, ap length (own-marks args.delay args.n c.if-x-eq20.false))
-
-pub bounds-marks-next-3 : goal.bounds-marks-next-3
-bounds-marks-next-3 c =
-    let args = c.args in
-    omega (arith, c.requires.0, ap length (own-marks args.delay args.n c.if-x-eq20.false))
-
-pub bounds-marks-next-4 : goal.bounds-marks-next-4
-bounds-marks-next-4 c =
+pub slice_bounds-copy_from_slice-end : goal.slice_bounds-copy_from_slice-end
+slice_bounds-copy_from_slice-end c =
     let args = c.args in
     omega (arith, c.requires.0, ap length (own-marks args.delay args.n c.if-x-eq20.false))
 
@@ -36,5 +21,7 @@ pub returns : goal.returns
 returns c =
     let args = c.args in
     let own = own-marks args.delay args.n c.if-x-eq20.false in
-    let index = c.index_of.ensures in
-    rw (own, index) (record { next = refl; put = four-marks args.marks.now args.next args.x args.delay args.n _ })
+    rw (own, ← c.index_of-index.ensures) (record {
+      next = refl;
+      put = marks-over args.marks.now _ _ args.next c.copy_from_slice.ensures.after (omega arith) (omega (arith, c.requires.0, ap length own));
+    })

@@ -1,19 +1,24 @@
--- `owning::run_of` meets its contract. The invariant: the run is the cells seen and the run from there on. Assumes nothing.
-use native.Mathlib.Omega.{arith}
-use Rattle.joiner.proofs.Runs.{run_more, run_end, run-all}
+-- `owning::run_of` meets its contract. Assumes nothing.
+use Rattle.std.proofs.Common.{◌-◌, sym, ap, ◌∙◌, inl, arith, rules, tests}
+use Rattle.std.proofs.lemmas.Iterator.Consumers.{count_from_yields_List, YieldsList-from_first}
+use Rattle.std.proofs.lemmas.Iterator.Search.{YieldsList-from_take_while}
+use Rattle.std.proofs.lemmas.List.Folds.{length-prefix_len}
+use Rattle.model.specs.NetlistFile.{cells_at, in_file}
+use Rattle.netlist.specs.Left.{cells_left}
+use Rattle.netlist.proofs.Bytes.{cells-length}
+use Rattle.joiner.proofs.Runs.{of_kind, run-prefix}
 use Rattle.joiner.proofs.owning.run_of.Goals as goal
-
-pub returns-then-c-kind : goal.returns-then-c-kind
-returns-then-c-kind c =
-    let args = c.args in
-    omega (arith, c.loop-i.invariant, run_end args.file.now args.count args.kind c.loop-i.i c.loop-i-test.true c.cell_at-c.ensures c.if-c-kind.true)
-
-pub loop-i-preserved : goal.loop-i-preserved
-loop-i-preserved c =
-    let args = c.args in
-    omega (arith, c.loop-i.invariant, run_more args.file.now args.count args.kind c.loop-i.i c.loop-i-test.true c.cell_at-c.ensures c.if-c-kind.false)
 
 pub returns : goal.returns
 returns c =
     let args = c.args in
-    omega (arith, c.loop-i.invariant, run-all args.file.now args.count args.kind c.loop-i.i (omega arith))
+    let cells = cells_at in_file args.file.now args.from (args.count - args.from) in
+    let test = of_kind args.kind in
+    count_from_yields_List c.take_while.result _ c.count.ensures.ran
+    (YieldsList-from_take_while _ test (YieldsList-from_first (λ x. x) cells_left cells (ap cells_left c.take_while.ensures.source)) c.take_while.ensures.closure c.take_while.ensures.done (λ x b q k. search (rules, tests)))
+    ∙ length-prefix_len test cells ∙ sym (run-prefix args.kind cells)
+
+pub count-requires-clause-fits : goal.count-requires-clause-fits
+count-requires-clause-fits c =
+    let args = c.args in
+    rw c.take_while.ensures.source (inl (omega (arith, cells-length in_file args.file.now args.from (args.count - args.from), c.requires.0.few)))

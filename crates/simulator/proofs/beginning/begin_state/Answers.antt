@@ -30,13 +30,13 @@ settle_all-requires c =
     let put-elements = c.put_elements in
     let clear = c.clear in
     let show-first = c.show_first in
-    let F = args.format in
+    let F = args.source.now.format in
     let pre = c.requires in
-    let net = net_of args.file.now in
+    let net = net_of args.source.now.file.now in
     let long = net-length pre.0 in
     let words = word_at args.words.now in
     let cleared = blank-is F net _ long _ words _ _ (fits-room pre.0) (rw base.ensures at put-elements.ensures) (rw base.ensures at clear.ensures) in (
-      refits pre.0 (show-first.auto.state ∙ clear.auto.state ∙ put-elements.auto.state),
+      refits pre.0 (show-first.auto.state ∙ clear.auto.d ∙ put-elements.auto.state),
       begin-ready F net (fits-ordered pre.0) _ long _ words _ _ cleared show-first.ensures,
     )
 
@@ -47,9 +47,9 @@ returns c =
     let put-elements = c.put_elements in
     let clear = c.clear in
     let show-first = c.show_first in
-    let F = args.format in
+    let F = args.source.now.format in
     let pre = c.requires in
-    let net = net_of args.file.now in
+    let net = net_of args.source.now.file.now in
     let long = net-length pre.0 in
     let words = word_at args.words.now in
     let cleared = blank-is F net _ long _ words _ _ (fits-room pre.0) (rw base.ensures at put-elements.ensures) (rw base.ensures at clear.ensures) in

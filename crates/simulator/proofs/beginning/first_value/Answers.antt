@@ -10,16 +10,16 @@ pub returns-then-c-eq40 : goal.returns-then-c-eq40
 returns-then-c-eq40 c =
     let pre = c.requires in
     let args = c.args in
-    let net = net_of args.file.now in
+    let net = net_of args.source.now.file.now in
     λ m.
     c.get16.ensures ∙ ap (word_at args.words.now) (sym m)
-    ∙ sym (first-memory args.format net (word_at args.words.now) args.state.now args.k args.c (holds-cell pre.0) c.if-c-eq40.true)
+    ∙ sym (first-memory args.source.now.format net (word_at args.words.now) args.state.now args.k args.c (holds-cell pre.0) c.if-c-eq40.true)
 
 pub returns-else-c-eq40 : goal.returns-else-c-eq40
 returns-else-c-eq40 c =
     let pre = c.requires in
     let args = c.args in
-    let net = net_of args.file.now in
+    let net = net_of args.source.now.file.now in
     λ m.
     c.next_value.ensures
-    ∙ sym (first-other args.format net (word_at args.words.now) args.state.now args.k args.c (holds-cell pre.0) c.if-c-eq40.false)
+    ∙ sym (first-other args.source.now.format net (word_at args.words.now) args.state.now args.k args.c (holds-cell pre.0) c.if-c-eq40.false)

@@ -40,10 +40,10 @@ first_value-v-requires c =
     let args = c.args in
     let here = cursor-cell pre.0 loop.k loop-test.true loop.invariant.2 cell-from.ensures in
     let z = holds pre.0 loop.k loop-test.true loop.state loop.invariant.0.long _ here in
-    let net = net_of args.file.now in
+    let net = net_of args.source.now.file.now in
     let e : cell_at net.cells loop.k ≡ cell-from.result = holds-cell z in
     let l : loop.k < length net.cells = rw (net-length pre.0) loop-test.true in
-    let sixteen = file-sixteen args.format args.file.now args.state.now pre.0.runs in (
+    let sixteen = file-sixteen args.source.now.format args.source.now.file.now args.state.now pre.0.runs in (
       z,
       pre.1,
       λ q. omega (arith, loop.invariant.1, sixteen, below-lt net.cells loop.k l (ap (λ (d : Cell). d.kind) e ∙ q)),
@@ -67,8 +67,8 @@ overflow_add-j c =
     let pre = c.requires in
     let args = c.args in
     let cell-from = c.cell_from-c in
-    let sixteen = file-sixteen args.format args.file.now args.state.now pre.0.runs in
-    omega (arith, loop.invariant.1, sixteen, below-le (cells_of args.file.now) loop.k, c.from-j.ensures, bit-lt (eqb cell-from.result.kind 40))
+    let sixteen = file-sixteen args.source.now.format args.source.now.file.now args.state.now pre.0.runs in
+    omega (arith, loop.invariant.1, sixteen, below-le (cells_of args.source.now.file.now) loop.k, c.from-j.ensures, bit-lt (eqb cell-from.result.kind 40))
 
 -- cell k shows v, which is put in at i
 shown_by : (F : Format) (net : Netlist) (words s t : List ℕ) (k i v : ℕ) → t ≡ stored F net s k → i ≡ base F k → v ≡ first_value F net (word_at words) s k
@@ -89,12 +89,12 @@ loop-k-preserved c =
     let first-value = c.first_value-v in
     let pre = c.requires in
     let next-offset = c.next_offset-at in
-    let net = net_of args.file.now in
+    let net = net_of args.source.now.file.now in
     let here = cursor-cell pre.0 loop.k loop-test.true loop.invariant.2 cell-from.ensures in
     let e : cell_at net.cells loop.k ≡ cell-from.result = holds-cell (holds pre.0 loop.k loop-test.true args.state.now refl _ here) in
     let l : loop.k < length net.cells = rw (net-length pre.0) loop-test.true in (
       passed-more loop.invariant.0 loop-test.true (put16-call.auto.s ∙ store.auto.state)
-          (put16-call.ensures ∙ shown_by args.format net args.words.now loop.state _ loop.k _ _ store.ensures base-call.ensures (first-value.ensures (sym loop.invariant.1))),
+          (put16-call.ensures ∙ shown_by args.source.now.format net args.words.now loop.state _ loop.k _ _ store.ensures base-call.ensures (first-value.ensures (sym loop.invariant.1))),
       omega (arith, loop.invariant.1, below_more net.cells loop.k l, ap (λ (d : Cell). bit (eqb d.kind 40)) e, c.from-j.ensures),
       follows loop.k loop.invariant.2 next-offset.ensures,
     )
@@ -118,5 +118,5 @@ put16-requires c =
     let test = c.loop-k-test in
     let pre = c.requires in
     let store = c.store in
-    let st = stands-in args.format loop.state loop.k args.h.count test.true (fits-few pre.0) (omega (arith, fits-room pre.0, loop.invariant.0.long)) in
+    let st = stands-in args.source.now.format loop.state loop.k args.source.now.h.count test.true (fits-few pre.0) (omega (arith, fits-room pre.0, loop.invariant.0.long)) in
     omega (arith, c.base-to.ensures, st.front, store.auto.state)

@@ -10,4 +10,4 @@ use Rattle.simulator.proofs.beginning.show_first.Given as goal
 
 abbrev pub invariant-loop-k : goal.invariant-loop-k
 invariant-loop-k l =
-    Passed (shown l.format (net_of l.file) (first_value l.format (net_of l.file) (word_at l.words))) l.h.count l.initial.state l.state l.k × (l.j ≡ memories (take l.k (cells_of l.file))) × (l.at ≡ in_file l.k)
+    Passed (shown l.source.format (net_of l.source.file.now) (first_value l.source.format (net_of l.source.file.now) (word_at l.words))) l.source.h.count l.initial.state l.state l.k × (l.j ≡ memories (take l.k (cells_of l.source.file.now))) × (l.at ≡ in_file l.k)

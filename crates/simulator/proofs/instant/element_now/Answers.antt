@@ -34,4 +34,4 @@ returns c =
     let array = ap (λ (d : Cell). d.delay) (net-cell pre.0 args.a pre.1 ∙ sym c.cell_at-array.ensures) in
     c.get16.ensures
     ∙ ap (get16 args.state.now) c.element_place.ensures
-    ∙ ap₂ (λ (m d : ℕ). get16 args.state.now (base args.format m + 2 * element_of d args.w)) (sym (net-length pre.0)) (sym array)
+    ∙ ap₂ (λ (m d : ℕ). get16 args.state.now (base args.source.now.format m + 2 * element_of d args.w)) (sym (net-length pre.0)) (sym array)

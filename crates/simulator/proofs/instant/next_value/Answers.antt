@@ -52,8 +52,8 @@ returns-in-38 c =
     let pre = c.requires in
     let args = c.args in
     c.merged.ensures
-    ∙ ap₂ (λ (x y : ℕ). bit (step_of args.h.pulse args.c.kind (high (before_at args.format args.state.now args.k)) (held_at args.format args.state.now args.k) (high x) (high y)).out) c.now_at-x.ensures c.now_at-y.ensures
-    ∙ ap (λ (w : ℕ). bit (step_of w args.c.kind (high (before_at args.format args.state.now args.k)) (held_at args.format args.state.now args.k) (high (now_at args.format args.state.now args.c.a)) (high (now_at args.format args.state.now args.c.b))).out) (fits-pulse pre.fits)
+    ∙ ap₂ (λ (x y : ℕ). bit (step_of args.source.now.h.pulse args.c.kind (high (before_at args.source.now.format args.state.now args.k)) (held_at args.source.now.format args.state.now args.k) (high x) (high y)).out) c.now_at-x.ensures c.now_at-y.ensures
+    ∙ ap (λ (w : ℕ). bit (step_of w args.c.kind (high (before_at args.source.now.format args.state.now args.k)) (held_at args.source.now.format args.state.now args.k) (high (now_at args.source.now.format args.state.now args.c.a)) (high (now_at args.source.now.format args.state.now args.c.b))).out) (fits-pulse pre.fits)
     ∙ sym (next-merge _ _ _ _ _ _ (grind arith))
 
 pub returns-then-x-eq1 : goal.returns-then-x-eq1
@@ -69,8 +69,8 @@ returns-else-x-eq1 c =
 pub returns-in-44 : goal.returns-in-44
 returns-in-44 c =
     let args = c.args in
-    let net = net_of args.file.now in
-    c.element_now.ensures ∙ ap (λ (y : ℕ). element_now args.format net args.state.now (element_of (cell_at net.cells args.c.a).delay y)) c.now_at-y.ensures ∙ sym (next-read _ _ _ _ _ _ c.in-44.is)
+    let net = net_of args.source.now.file.now in
+    c.element_now.ensures ∙ ap (λ (y : ℕ). element_now args.source.now.format net args.state.now (element_of (cell_at net.cells args.c.a).delay y)) c.now_at-y.ensures ∙ sym (next-read _ _ _ _ _ _ c.in-44.is)
 
 pub returns-in-45 : goal.returns-in-45
 returns-in-45 c = c.latched.ensures ∙ sym (next-latch _ _ _ _ _ _ c.in-45.is)

@@ -65,9 +65,9 @@ settle-number-requires c =
     let at = holds pre.0 loop.k taken loop.state loop.invariant.0.passed.long _ here in
     let cell = holds-cell at in
     let long = net-length pre.0 in
-    let free : crowds args.format loop.state loop.k (c.cell_from-c.result) ≡ false =
-    elim c.else-c-eq34.branch [ else-c-eq34-via-then-c-eq34+else-is_crowded w ↦ sym w.is_crowded.ensures ∙ w.if-is_crowded.false | else-c-eq34-via-else-c-eq34 w ↦ crowds-other _ _ _ args.format w.if-c-eq34.false ] in
-    let room : base args.format args.h.count ≤ length args.state.now = omega (arith, fits-room pre.0) in
+    let free : crowds args.source.now.format loop.state loop.k (c.cell_from-c.result) ≡ false =
+    elim c.else-c-eq34.branch [ else-c-eq34-via-then-c-eq34+else-is_crowded w ↦ sym w.is_crowded.ensures ∙ w.if-is_crowded.false | else-c-eq34-via-else-c-eq34 w ↦ crowds-other _ _ _ args.source.now.format w.if-c-eq34.false ] in
+    let room : base args.source.now.format args.source.now.h.count ≤ length args.state.now = omega (arith, fits-room pre.0) in
     let bytes : (j : ℕ) → get_or args.state.now j 0 < 256 = λ j. omega (arith, slice-known.given j) in
     let asks = settling-asks loop.invariant.0 long taken _ cell (fits-ordered pre.0) room pre.1 bytes free (fits-few pre.0) in
     (at.stands, at.sees, asks.0, rw (fits-pulse pre.0) asks.1)
@@ -85,13 +85,13 @@ loop-k-preserved c =
     let here = cursor-cell pre.0 loop.k taken loop.invariant.1 cell-from.ensures in
     let cell = holds-cell (holds pre.0 loop.k taken args.state.now refl _ here) in
     let long = net-length pre.0 in
-    let free : crowds args.format loop.state loop.k (c.cell_from-c.result) ≡ false =
-    elim c.else-c-eq34.branch [ else-c-eq34-via-then-c-eq34+else-is_crowded w ↦ sym w.is_crowded.ensures ∙ w.if-is_crowded.false | else-c-eq34-via-else-c-eq34 w ↦ crowds-other _ _ _ args.format w.if-c-eq34.false ] in
-    let room : base args.format args.h.count ≤ length args.state.now = omega (arith, fits-room pre.0) in
+    let free : crowds args.source.now.format loop.state loop.k (c.cell_from-c.result) ≡ false =
+    elim c.else-c-eq34.branch [ else-c-eq34-via-then-c-eq34+else-is_crowded w ↦ sym w.is_crowded.ensures ∙ w.if-is_crowded.false | else-c-eq34-via-else-c-eq34 w ↦ crowds-other _ _ _ args.source.now.format w.if-c-eq34.false ] in
+    let room : base args.source.now.format args.source.now.h.count ≤ length args.state.now = omega (arith, fits-room pre.0) in
     let bytes : (j : ℕ) → get_or args.state.now j 0 < 256 = λ j. omega (arith, slice-known.given j) in
     let settled = rw (fits-pulse pre.0) at c.settle-number.ensures in (
       settling-more loop.invariant.0 long taken _ cell (fits-ordered pre.0) room pre.1 bytes free _ _ c.settle-number.auto.state
-          (settled.state ∙ ap (λ (x : Cell). settle args.format (pulse_of args.file.now) (shape x.kind) loop.state loop.k x) (sym cell)) settled.number (λ j. omega (arith, c.slice_known-in-loop-k-1.given j)),
+          (settled.state ∙ ap (λ (x : Cell). settle args.source.now.format (pulse_of args.source.now.file.now) (shape x.kind) loop.state loop.k x) (sym cell)) settled.number (λ j. omega (arith, c.slice_known-in-loop-k-1.given j)),
       follows loop.k loop.invariant.1 next-offset.ensures,
     )
 

@@ -6,4 +6,4 @@ use Rattle.simulator.proofs.InFlight.{Settling}
 use Rattle.simulator.proofs.instant.settle_all.Given as goal
 
 abbrev pub invariant-loop-k : goal.invariant-loop-k
-invariant-loop-k l = Settling l.format (net_of l.file) l.h.count l.initial.state l.state l.k l.number × (l.at ≡ in_file l.k)
+invariant-loop-k l = Settling l.source.format (net_of l.source.file.now) l.source.h.count l.initial.state l.state l.k l.number × (l.at ≡ in_file l.k)

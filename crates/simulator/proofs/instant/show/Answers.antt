@@ -17,4 +17,4 @@ returns c =
     let tick = c.tick in
     let age-all = c.age_all in
     let show-all = c.show_all in
-    valued-is args.format (net_of args.file.now) args.starts args.state.now _ (net-length pre.0) _ _ _ tick.ensures age-all.ensures show-all.ensures
+    valued-is args.source.now.format (net_of args.source.now.file.now) args.starts args.state.now _ (net-length pre.0) _ _ _ tick.ensures age-all.ensures show-all.ensures

@@ -72,5 +72,5 @@ put16-requires c =
     let test = c.loop-k-test in
     let pre = c.requires in
     let store = c.store in
-    let st = stands-in args.format loop.state loop.k args.h.count test.true (fits-few pre) (omega (arith, fits-room pre, loop.invariant.0.long)) in
+    let st = stands-in args.source.now.format loop.state loop.k args.source.now.h.count test.true (fits-few pre) (omega (arith, fits-room pre, loop.invariant.0.long)) in
     omega (arith, c.base-to.ensures, st.front, store.auto.state)

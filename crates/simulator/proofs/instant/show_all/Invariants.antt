@@ -6,4 +6,4 @@ use Rattle.simulator.proofs.Passes.{Passed}
 use Rattle.simulator.proofs.instant.show_all.Given as goal
 
 abbrev pub invariant-loop-k : goal.invariant-loop-k
-invariant-loop-k l = Passed (shown l.format (net_of l.file) (value l.format (net_of l.file) l.starts)) l.h.count l.initial.state l.state l.k × (l.at ≡ in_file l.k)
+invariant-loop-k l = Passed (shown l.source.format (net_of l.source.file.now) (value l.source.format (net_of l.source.file.now) l.starts)) l.source.h.count l.initial.state l.state l.k × (l.at ≡ in_file l.k)

@@ -35,8 +35,8 @@ returns-in-Err c =
     let if1 = c.if-kept-ge-KEPT in
     let check-lines = c.check_lines in
     let take_back = c.take_back in
-    let F = args.format in
-    let net = net_of args.file.now in
+    let F = args.source.now.format in
+    let net = net_of args.source.now.file.now in
     let s = args.state.now in
     let crowded = sym c.in-Err.is ∙ check-lines.ensures ∙ ap (λ (x : List ℕ). crowding F net x x) show.ensures ∙ step-crowding F net args.starts s in
     let has = keep.ensures (omega (arith, if1.true, keep.auto.kept)) in
@@ -49,7 +49,7 @@ settle_all-requires c =
     let args = c.args in
     let pre = c.requires in
     let show = c.show in
-    (refits pre.0 show.auto.state, rw show.ensures (step-ready args.format (net_of args.file.now) (fits-ordered pre.0) args.starts args.state.now pre.2))
+    (refits pre.0 show.auto.state, rw show.ensures (step-ready args.source.now.format (net_of args.source.now.file.now) (fits-ordered pre.0) args.starts args.state.now pre.2))
 
 pub returns : goal.returns
 returns c =
@@ -58,8 +58,8 @@ returns c =
     let show = c.show in
     let if1 = c.if-kept-ge-KEPT in
     let settle-all = c.settle_all in
-    let F = args.format in
-    let net = net_of args.file.now in
+    let F = args.source.now.format in
+    let net = net_of args.source.now.file.now in
     let s = args.state.now in
     let long = net-length pre.0 in
     let done = settle-all.ensures in record {

@@ -52,7 +52,7 @@ returns-then-has_fallen c =
     let next = net-cell fits (args.k + 1) there ∙ sym (cursor-cell fits (args.k + 1) there pre.1 cell-from.ensures) in
     let fallen = sym has-fallen.ensures ∙ if2.true in
     c.put16.ensures
-    ∙ stored-put args.format (net_of args.file.now) args.state.now args.k args.c (holds-cell pre.0) array fallen _ _ _ _ _ (net-length fits) next element_place.ensures before_at.ensures before-at2.ensures
+    ∙ stored-put args.source.now.format (net_of args.source.now.file.now) args.state.now args.k args.c (holds-cell pre.0) array fallen _ _ _ _ _ (net-length fits) next element_place.ensures before_at.ensures before-at2.ensures
 
 pub returns-else-c-eq42 : goal.returns-else-c-eq42
 returns-else-c-eq42 c =

@@ -34,12 +34,12 @@ returns-then-is_crowded c =
     let loop = c.loop-k in
     let test = c.loop-k-test in
     let cell-from = c.cell_from-c in
-    let F = args.format in
-    let net = net_of args.file.now in
+    let F = args.source.now.format in
+    let net = net_of args.source.now.file.now in
     let s = args.state.now in
     let cell = holds-cell (holds pre loop.k test.true s refl _ (cursor-cell pre loop.k test.true loop.invariant.2 cell-from.ensures)) in
     let full = ap (crowds F s loop.k) cell ∙ sym c.is_crowded.ensures ∙ c.if-is_crowded.true in
-    c.refuse.ensures ∙ fault-here loop.invariant.0 26 test.true (omega arith) (crowded-here F net s loop.k full) ∙ sym (crowding-faults F net s args.h.count (net-length pre))
+    c.refuse.ensures ∙ fault-here loop.invariant.0 26 test.true (omega arith) (crowded-here F net s loop.k full) ∙ sym (crowding-faults F net s args.source.now.h.count (net-length pre))
 
 pub next_offset-at-requires : goal.next_offset-at-requires
 next_offset-at-requires c =
@@ -55,8 +55,8 @@ loop-k-preserved c =
     let test = c.loop-k-test in
     let cell-from = c.cell_from-c in
     let next-offset = c.next_offset-at in
-    let F = args.format in
-    let net = net_of args.file.now in
+    let F = args.source.now.format in
+    let net = net_of args.source.now.file.now in
     let s = args.state.now in
     let cell = holds-cell (holds pre loop.k test.true s refl _ (cursor-cell pre loop.k test.true loop.invariant.2 cell-from.ensures)) in
     let free : crowds F s loop.k (c.cell_from-c.result) ≡ false =
@@ -71,4 +71,4 @@ returns c =
     let pre = c.requires in
     let args = c.args in
     let loop = c.loop-k in
-    faults-end loop.invariant.0 c.loop-k-test.false ∙ sym (crowding-faults args.format (net_of args.file.now) args.state.now args.h.count (net-length pre))
+    faults-end loop.invariant.0 c.loop-k-test.false ∙ sym (crowding-faults args.source.now.format (net_of args.source.now.file.now) args.state.now args.source.now.h.count (net-length pre))

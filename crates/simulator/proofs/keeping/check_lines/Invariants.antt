@@ -7,4 +7,4 @@ use Rattle.simulator.proofs.Crowding.{crowd_fault}
 use Rattle.simulator.proofs.keeping.check_lines.Given as goal
 
 abbrev pub invariant-loop-k : goal.invariant-loop-k
-invariant-loop-k l = Searched (crowd_fault l.format (net_of l.file) l.state) l.fn.h.count l.k × (l.k ≤ l.fn.h.count) × (l.at ≡ in_file l.k)
+invariant-loop-k l = Searched (crowd_fault l.source.format (net_of l.source.file.now) l.state) l.source.h.count l.k × (l.k ≤ l.source.h.count) × (l.at ≡ in_file l.k)

@@ -9,4 +9,4 @@ use Rattle.simulator.proofs.runs.continue_state.Given as goal
 
 abbrev pub invariant-loop-count : goal.invariant-loop-count
 invariant-loop-count l =
-    Underway l.format (net_of l.file) l.starts (finish_of l.file) l.budget l.initial.state l.state l.count × Spares l.format l.h.count l.initial.state l.state × (length l.kept ≡ length l.initial.kept)
+    Underway l.source.format (net_of l.source.file.now) l.starts (finish_of l.source.file.now) l.budget l.initial.state l.state l.count × Spares l.source.format l.source.h.count l.initial.state l.state × (length l.kept ≡ length l.initial.kept)

@@ -19,7 +19,7 @@ use Rattle.simulator.proofs.runs.full_run.Goals as goal
 
 pub is_high-requires : goal.is_high-requires
 is_high-requires c =
-    let header_of = c.header_of-h in
+    let header_of = c.header_of in
     let args = c.args in
     let pre = c.requires in
     let z = file-sized Full args.file.now args.state.now pre.0 in
@@ -27,7 +27,7 @@ is_high-requires c =
 
 pub returns-then-is_high : goal.returns-then-is_high
 returns-then-is_high c =
-    let header_of = c.header_of-h in
+    let header_of = c.header_of in
     let begin-state = c.begin_state in
     let is-high = c.is_high in
     let if1 = c.if-is_high in
@@ -39,7 +39,7 @@ returns-then-is_high c =
 
 pub continue_in-went-requires : goal.continue_in-went-requires
 continue_in-went-requires c =
-    let header_of = c.header_of-h in
+    let header_of = c.header_of in
     let args = c.args in
     let pre = c.requires in
     let begin-state = c.begin_state in
@@ -60,7 +60,7 @@ overflow_add-went c =
 
 pub returns : goal.returns
 returns c =
-    let header_of = c.header_of-h in
+    let header_of = c.header_of in
     let continue-in = c.continue_in-went in
     let begin-state = c.begin_state in
     let is-high = c.is_high in

@@ -14,20 +14,20 @@ pub is_high-requires : goal.is_high-requires
 is_high-requires c =
     let args = c.args in
     let pre = c.requires in
-    stands-in args.format args.state.now args.h.finish args.h.count (fits-finish pre).1 (fits-few pre) (omega (arith, fits-room pre))
+    stands-in args.source.now.format args.state.now args.source.now.h.finish args.source.now.h.count (fits-finish pre).1 (fits-few pre) (omega (arith, fits-room pre))
 
 pub returns-then-is_high : goal.returns-then-is_high
 returns-then-is_high c =
     let pre = c.requires in
     let args = c.args in
-    answer-shows args.format args.file.now args.state.now args.count true _ _
-    (ap (λ (k : ℕ). high (now_at args.format args.state.now k)) (sym (fits-finish pre).0) ∙ sym c.is_high.ensures ∙ c.if-is_high.true)
+    answer-shows args.source.now.format args.source.now.file.now args.state.now args.count true _ _
+    (ap (λ (k : ℕ). high (now_at args.source.now.format args.state.now k)) (sym (fits-finish pre).0) ∙ sym c.is_high.ensures ∙ c.if-is_high.true)
     c.get32-instant.ensures c.words_in-words.ensures
 
 pub returns-else-is_high : goal.returns-else-is_high
 returns-else-is_high c =
     let pre = c.requires in
     let args = c.args in
-    answer-shows args.format args.file.now args.state.now args.count false _ _
-    (ap (λ (k : ℕ). high (now_at args.format args.state.now k)) (sym (fits-finish pre).0) ∙ sym c.is_high.ensures ∙ c.if-is_high.false)
+    answer-shows args.source.now.format args.source.now.file.now args.state.now args.count false _ _
+    (ap (λ (k : ℕ). high (now_at args.source.now.format args.state.now k)) (sym (fits-finish pre).0) ∙ sym c.is_high.ensures ∙ c.if-is_high.false)
     c.get32-instant.ensures c.words_in-words.ensures

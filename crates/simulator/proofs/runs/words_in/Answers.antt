@@ -17,7 +17,7 @@ pub loop-k-init : goal.loop-k-init
 loop-k-init c =
     let args = c.args in
     let pre = c.requires in
-    (omega arith, collects-first _ _ _ _ (file-sixteen args.format args.file.now args.state.now pre.runs) refl, refl)
+    (omega arith, collects-first _ _ _ _ (file-sixteen args.source.now.format args.source.now.file.now args.state.now pre.runs) refl, refl)
 
 pub cell_from-c-requires : goal.cell_from-c-requires
 cell_from-c-requires c =
@@ -37,10 +37,10 @@ bounds-words-j c =
     let args = c.args in
     let pre = c.requires in
     let cell-from = c.cell_from-c in
-    let l : loop.k < args.h.count = c.loop-k-test.true in
-    let m : loop.k < length (cells_of args.file.now) = rw (net-length pre) l in
-    let e : cell_at (cells_of args.file.now) loop.k ≡ cell-from.result = net-cell pre loop.k l ∙ sym (cursor-cell pre loop.k l loop.invariant.2 cell-from.ensures) in
-    omega (arith, collects-room args.format (cells_of args.file.now) args.state.now loop.words loop.j loop.k m cell-from.result e loop.invariant.1 c.if-c-eq40.true)
+    let l : loop.k < args.source.now.h.count = c.loop-k-test.true in
+    let m : loop.k < length (cells_of args.source.now.file.now) = rw (net-length pre) l in
+    let e : cell_at (cells_of args.source.now.file.now) loop.k ≡ cell-from.result = net-cell pre loop.k l ∙ sym (cursor-cell pre loop.k l loop.invariant.2 cell-from.ensures) in
+    omega (arith, collects-room args.source.now.format (cells_of args.source.now.file.now) args.state.now loop.words loop.j loop.k m cell-from.result e loop.invariant.1 c.if-c-eq40.true)
 
 pub loop-k-preserved : goal.loop-k-preserved
 loop-k-preserved c =
@@ -48,13 +48,13 @@ loop-k-preserved c =
     let args = c.args in
     let pre = c.requires in
     let cell-from = c.cell_from-c in
-    let l : loop.k < args.h.count = c.loop-k-test.true in
-    let m : loop.k < length (cells_of args.file.now) = rw (net-length pre) l in
-    let e : cell_at (cells_of args.file.now) loop.k ≡ cell-from.result = net-cell pre loop.k l ∙ sym (cursor-cell pre loop.k l loop.invariant.2 cell-from.ensures) in (
+    let l : loop.k < args.source.now.h.count = c.loop-k-test.true in
+    let m : loop.k < length (cells_of args.source.now.file.now) = rw (net-length pre) l in
+    let e : cell_at (cells_of args.source.now.file.now) loop.k ≡ cell-from.result = net-cell pre loop.k l ∙ sym (cursor-cell pre loop.k l loop.invariant.2 cell-from.ensures) in (
       omega arith,
       elim c.if-c-eq40.branch [
-        | then-c-eq40 w ↦ rw (w.words-is, w.j-is, c.now_at-v.ensures) (collects-memory args.format (cells_of args.file.now) args.state.now loop.words loop.j loop.k m cell-from.result e loop.invariant.1 w.if-c-eq40.true)
-        | else-c-eq40 w ↦ rw (w.words-is, w.j-is) (collects-other args.format (cells_of args.file.now) args.state.now loop.words loop.j loop.k m cell-from.result e loop.invariant.1 w.if-c-eq40.false)
+        | then-c-eq40 w ↦ rw (w.words-is, w.j-is, c.now_at-v.ensures) (collects-memory args.source.now.format (cells_of args.source.now.file.now) args.state.now loop.words loop.j loop.k m cell-from.result e loop.invariant.1 w.if-c-eq40.true)
+        | else-c-eq40 w ↦ rw (w.words-is, w.j-is) (collects-other args.source.now.format (cells_of args.source.now.file.now) args.state.now loop.words loop.j loop.k m cell-from.result e loop.invariant.1 w.if-c-eq40.false)
       ],
       follows loop.k loop.invariant.2 c.next_offset-at.ensures,
     )
@@ -64,10 +64,10 @@ returns c =
     let pre = c.requires in
     let args = c.args in
     let loop = c.loop-k in
-    collects-all args.format (cells_of args.file.now) args.state.now loop.words loop.j loop.k (omega (arith, net-length pre)) loop.invariant.1
+    collects-all args.source.now.format (cells_of args.source.now.file.now) args.state.now loop.words loop.j loop.k (omega (arith, net-length pre)) loop.invariant.1
 
 pub now_at-v-requires : goal.now_at-v-requires
 now_at-v-requires c =
     let args = c.args in
     let pre = c.requires in
-    stands-in args.format args.state.now c.loop-k.k args.h.count c.loop-k-test.true (fits-few pre) (omega (arith, fits-room pre))
+    stands-in args.source.now.format args.state.now c.loop-k.k args.source.now.h.count c.loop-k-test.true (fits-few pre) (omega (arith, fits-room pre))

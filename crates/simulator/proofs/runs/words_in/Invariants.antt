@@ -6,4 +6,4 @@ use Rattle.simulator.proofs.Memories.{Collects}
 use Rattle.simulator.proofs.runs.words_in.Given as goal
 
 abbrev pub invariant-loop-k : goal.invariant-loop-k
-invariant-loop-k l = (l.k ≤ l.fn.h.count) × Collects l.format (cells_of l.file) l.state l.words l.j l.k × (l.at ≡ in_file l.k)
+invariant-loop-k l = (l.k ≤ l.source.h.count) × Collects l.source.format (cells_of l.source.file.now) l.state l.words l.j l.k × (l.at ≡ in_file l.k)

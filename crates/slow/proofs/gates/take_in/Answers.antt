@@ -34,8 +34,8 @@ returns-then-has_fallen c =
       elements = taken-put s args.net.now.n args.c j args.t c.if-t-eq0.false f pre.1 (omega (arith, pre.5));
     })
 
-pub returns : goal.returns
-returns c =
+pub returns-else-has_fallen : goal.returns-else-has_fallen
+returns-else-has_fallen c =
     let args = c.args in
     let j = (cell_from args.net.now.cells.now (6 * (args.k + 1))).a in
     let f = sym c.has_fallen.ensures ∙ c.if-has_fallen.false in

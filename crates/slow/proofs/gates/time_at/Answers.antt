@@ -11,7 +11,7 @@ returns-then-kind-eq44 c =
 pub returns-then-k-ors : goal.returns-then-k-ors
 returns-then-k-ors c =
     let args = c.args in
-    c.entry-then-k-ors.ensures ∙ sym (time-other args.times.now args.ors args.k args.kind c.if-k-ors.true c.if-kind-eq44.false)
+    (rw c.from.ensures at c.entry-then-k-ors.ensures) ∙ sym (time-other args.times.now args.ors args.k args.kind c.if-k-ors.true c.if-kind-eq44.false)
 
 pub returns : goal.returns
 returns c =

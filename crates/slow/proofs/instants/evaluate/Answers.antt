@@ -10,7 +10,7 @@ use Rattle.model.specs.Circuit.{cell_at, start_word, shape}
 use Rattle.model.specs.Calls.{word_at}
 use Rattle.laws.specs.Circuit.Shapes.{bit_le}
 use Rattle.slow.specs.Ring.{net_of, shown_in, time_at, values_of, Prepared}
-use Rattle.slow.proofs.Cells.{net-length, is-cell, sees-read, next-read, memories-next, memories-few}
+use Rattle.slow.proofs.Cells.{truth, net-length, is-cell, sees-read, next-read, memories-next, memories-few}
 use Rattle.slow.proofs.Evaluating.{value-right, evaluated}
 use Rattle.slow.proofs.instants.evaluate.Goals as goal
 
@@ -58,7 +58,8 @@ overflow_add-result c =
       start.requires.3,
       memories-few (net_of start.args.net.now.cells.now start.args.net.now.n) start.args.k,
       start.requires.0.sixteen,
-      c.bit.ensures,
+      c.from.ensures,
+      truth (eqb c.cell_at-c.result.kind 40),
       bit_le (eqb c.cell_at-c.result.kind 40),
     )
 
@@ -85,7 +86,7 @@ returns c =
     c.next_word-v.ensures
     ∙ ap (λ (x : ℕ). shown_in (shape read.kind) s₁ args.net.now.n args.k read args.t (time_at args.net.now.times.now args.net.now.ors args.k read.kind) x) first-is
     ∙ right in record {
-      memory = omega (arith, m, k40, c.bit.ensures, start.requires.3);
+      memory = omega (arith, m, k40, c.from.ensures, truth (eqb c.cell_at-c.result.kind 40), start.requires.3);
       kept = rw c.put_word.ensures
           (evaluated args.net.now.cells.now args.net.now.n args.net.now.ors args.net.now.times.now args.net.now.words.now small w.ordered args.t args.k l args.work.now s₁ start.requires.1 p
           w.room c.next_word-v.result value);

@@ -69,8 +69,8 @@ returns-then-is_merge c =
       read = λ q. absurd (c.if-kind-eq44.false q);
     })
 
-pub returns : goal.returns
-returns c =
+pub returns-else-is_merge : goal.returns-else-is_merge
+returns-else-is_merge c =
     let args = c.args in
     record {
       leaves = leaves_none args.net.now.n args.t (Beside args.net.now.n args.k) (Owned args.c) args.work.now;

@@ -17,4 +17,4 @@ returns-in-Compact c =
     let args = c.args in
     let base = c.base-at in
     let pre = c.requires in
-    ap (λ (x : Bool). x && ltb 1 (get_or args.state.now (base.result + 6) 0)) c.is_high-x.ensures ∙ counter-room args.format args.state.now args.k _ base.ensures args.c c.in-Compact.is pre.2
+    ap (λ (x : Bool). x && ltb 1 (get_or args.state.now (base.result + 6) 0)) (rw c.from.ensures at c.is_high-x.ensures) ∙ counter-room args.format args.state.now args.k _ base.ensures args.c c.in-Compact.is pre.2

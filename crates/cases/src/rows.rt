@@ -8,6 +8,7 @@ ghost use Rattle.cases.specs.Rows.{open_answer, bytes_of, Same, Holds, kinds_set
 
 use model::sizes::{COMPILED_FILE, COMPILED_STATE, START_WORDS};
 use model::{Answer, Outcome, Refusal};
+use reply::Reply;
 
 pub fn ends(instant: u32, word: u16) -> Answer
     requires { instant < 1000000 }
@@ -41,7 +42,7 @@ pub fn refuses(number: u8, place: usize) -> Answer
     Answer::refused(Refusal { number, place })
 }
 
-// Nodes from one place to another, all of a kind.
+// Nodes from one place to another, all of a kind. They go by number: of chunks that are lent to be written a proof knows, after the loop, the lengths alone.
 pub fn set_kinds(program: &mut [u8], from: usize, to: usize, kind: u8)
     requires { 4 * to ≤ length program.old }
     ensures { program.new ≡ kinds_set program.old from to kind }
@@ -67,7 +68,7 @@ fn by_circuit(procedures: usize, program: &[u8], word: u16, budget: u32) -> Answ
     let mut netlist = [0u8; COMPILED_FILE];
     let mut state = [0u8; COMPILED_STATE];
     hub::run_program(
-        hub::load_if(false, b"", procedures, 1),
+        hub::load(None, procedures, 1),
         program,
         &start(word),
         budget,
@@ -76,12 +77,11 @@ fn by_circuit(procedures: usize, program: &[u8], word: u16, budget: u32) -> Answ
     )
 }
 
-#[tactic(auto, unfolding(model::specs::TimeTables::given_if))]
 fn by_rules(procedures: usize, program: &[u8], word: u16, budget: u32) -> Answer
     ensures { result ≡ reference_call (load (beside built_in procedures 1)) program.now (start word) budget }
 {
     hub::reference_run(
-        hub::load_if(false, b"", procedures, 1),
+        hub::load(None, procedures, 1),
         program,
         &start(word),
         budget,
@@ -92,11 +92,11 @@ fn bytes_of(a: Answer) -> [u8; reply::LENGTH]
     ensures { result ≡ bytes_of a }
 {
     let mut bytes = [0u8; reply::LENGTH];
-    reply::put(&mut bytes, reply::of_answer(a));
+    reply::put(&mut bytes, Reply::from(a));
     bytes
 }
 
-// Whether two answers are the same.
+// Whether two answers are the same, by their replies, as Same tells it: byte 0 is 2 where the run is open.
 fn same(a: Answer, b: Answer) -> bool
     ensures { result ≡ true → Same a b }
 {

@@ -1,12 +1,12 @@
 -- A scan of a list of cells: the cells that inputs name, the end of the loop, and what is told of a scan. Assumes nothing.
-use Rattle.std.proofs.Common.{◌≡◌, ℕ, ◌<◌, ◌≤◌, Bool, true, false, ltb, List, length, refl, ◌∙◌, lt-ltb}
+use Rattle.std.proofs.Common.{◌≡◌, ℕ, ◌<◌, ◌≤◌, Bool, true, false, ltb, leb, List, length, refl, ◌∙◌, lt-ltb, leb-true, arith}
 use Rattle.model.specs.declared.Cell.{Cell}
 use Rattle.model.specs.Word.{pick}
 use Rattle.model.specs.Refusals.{refuse, Checked}
 use Rattle.model.specs.NetlistFile.{cell_limit, count_wrong, blocks_for, net_check}
 use Rattle.model.specs.CellSlices.{check_cells_call}
 use Rattle.model.specs.Circuit.{cell_at}
-use Rattle.laws.specs.Refusals.Laws.{first_one}
+use Rattle.laws.specs.Refusals.Laws.{by_bool, first_one}
 use Rattle.netlist.specs.declared.rules.Scan.{Scan}
 use Rattle.netlist.specs.Scans.{Scanned}
 use Rattle.netlist.proofs.FileChecks.{counted}
@@ -17,8 +17,11 @@ named-there xs k j r e l = rw (e, lt-ltb j (length xs) l) refl
 
 -- Loops --------------------------------------------------------------------------------------------------------------------------------
 
-pub one-looked : (xs : List Cell) (finish k : ℕ) (s : Scan) → length xs ≤ cell_limit → Scanned xs finish k s → Looked xs finish k s
-one-looked xs finish k s l p = record { count = p.count; end = p.end; few = λ _. l; found = λ _. p }
+-- where a cell is looked at, a netlist may have so many
+pub few-looked : (n m k : ℕ) → m ≡ pick (leb n cell_limit) n 0 → k < m → n ≤ cell_limit
+few-looked n m k e h =
+    by_bool (leb n cell_limit) (λ t. leb-true n cell_limit t)
+    (λ t. let z : m ≡ 0 = rw t at e in absurd (omega (arith, z, h)))
 
 -- What is told -------------------------------------------------------------------------------------------------------------------------
 

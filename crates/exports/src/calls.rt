@@ -3,7 +3,7 @@
 // lists: of a closure that made the call a helper would know the result, and not what it leaves in the lists; and one that took these, too, would stand
 // here for none, one and two of them.
 // Before a program or a text stands what is given beside it: a flag that tells whether a table of operator times is given, the table, the number of
-// procedures, and the pulse length, which a slow run has not.
+// procedures, and the pulse length, which a slow run has not. Flags, lengths in a list of their own and so many parameters are the C interface's (exports_c).
 ghost use Rattle.std.specs.Prelude.{◌≡◌};
 ghost use Rattle.model.specs.TimeTables.{given_if, beside, load};
 ghost use Rattle.model.specs.Calls.{check_call, compile_call, write_call, read_call, begin_call, continue_call, start_call, run_netlist_call, run_program_call, reference_call};
@@ -14,7 +14,9 @@ ghost use Rattle.model.specs.declared.Format.TheVariants.{Full, Compact};
 ghost use Rattle.reply.specs.Replies.{checked_reply, written_reply, answer_reply, replied, room_for, if_room};
 
 use crate::runs;
+use crate::runs::Imperative;
 use model::Format;
+use reply::Reply;
 
 pub fn hub_check(
     timed: bool,
@@ -32,7 +34,7 @@ pub fn hub_check(
     }
     let options = hub::load_if(timed, table, procedures, pulse);
     let answer = hub::check(options, program);
-    reply::put(reply, reply::of_checked(answer));
+    reply::put(reply, Reply::from(answer));
     true
 }
 
@@ -54,7 +56,7 @@ pub fn hub_compile(
     }
     let options = hub::load_if(timed, table, procedures, pulse);
     let answer = hub::compile(options, program, file);
-    reply::put(reply, reply::of_written(answer));
+    reply::put(reply, Reply::from(answer));
     true
 }
 
@@ -78,7 +80,7 @@ pub fn hub_join(
     }
     let options = hub::load_if(timed, table, 0, 1);
     let answer = hub::join(options, lengths, pulses, parts, file);
-    reply::put(reply, reply::of_written(answer));
+    reply::put(reply, Reply::from(answer));
     true
 }
 
@@ -91,7 +93,7 @@ pub fn hub_write(pulse: u8, cells: &[u8], finish: u16, file: &mut [u8], reply: &
         return false;
     }
     let answer = hub::write_netlist(pulse, cells, finish, file);
-    reply::put(reply, reply::of_written(answer));
+    reply::put(reply, Reply::from(answer));
     true
 }
 
@@ -104,7 +106,7 @@ pub fn hub_read(file: &[u8], cells: &mut [u8], reply: &mut [u8]) -> bool
         return false;
     }
     let answer = hub::read_netlist(file, cells);
-    reply::put(reply, reply::of_written(answer));
+    reply::put(reply, Reply::from(answer));
     true
 }
 
@@ -113,7 +115,7 @@ pub fn hub_begin(netlist: &[u8], words: &[u8], state: &mut [u8], reply: &mut [u8
     ensures state { state.new ≡ if_room reply.old (begin_call Full netlist.now words.now state.old).lent state.old }
     ensures reply { reply.new ≡ if_room reply.old (replied (answer_reply (begin_call Full netlist.now words.now state.old).answer) reply.old) reply.old }
 {
-    runs::begin(Format::Full, netlist, words, state, reply)
+    runs::begin::<Imperative>(Format::Full, netlist, words, state, reply)
 }
 
 pub fn hub_begin_compact(netlist: &[u8], words: &[u8], state: &mut [u8], reply: &mut [u8]) -> bool
@@ -121,7 +123,7 @@ pub fn hub_begin_compact(netlist: &[u8], words: &[u8], state: &mut [u8], reply: 
     ensures state { state.new ≡ if_room reply.old (begin_call Compact netlist.now words.now state.old).lent state.old }
     ensures reply { reply.new ≡ if_room reply.old (replied (answer_reply (begin_call Compact netlist.now words.now state.old).answer) reply.old) reply.old }
 {
-    runs::begin(Format::Compact, netlist, words, state, reply)
+    runs::begin::<Imperative>(Format::Compact, netlist, words, state, reply)
 }
 
 pub fn hub_continue(netlist: &[u8], state: &mut [u8], n: u32, reply: &mut [u8]) -> bool
@@ -129,7 +131,7 @@ pub fn hub_continue(netlist: &[u8], state: &mut [u8], n: u32, reply: &mut [u8]) 
     ensures state { state.new ≡ if_room reply.old (continue_call Full netlist.now n state.old).lent state.old }
     ensures reply { reply.new ≡ if_room reply.old (replied (answer_reply (continue_call Full netlist.now n state.old).answer) reply.old) reply.old }
 {
-    runs::continue_by(Format::Full, netlist, state, n, reply)
+    runs::continue_by::<Imperative>(Format::Full, netlist, state, n, reply)
 }
 
 pub fn hub_continue_compact(netlist: &[u8], state: &mut [u8], n: u32, reply: &mut [u8]) -> bool
@@ -137,7 +139,7 @@ pub fn hub_continue_compact(netlist: &[u8], state: &mut [u8], n: u32, reply: &mu
     ensures state { state.new ≡ if_room reply.old (continue_call Compact netlist.now n state.old).lent state.old }
     ensures reply { reply.new ≡ if_room reply.old (replied (answer_reply (continue_call Compact netlist.now n state.old).answer) reply.old) reply.old }
 {
-    runs::continue_by(Format::Compact, netlist, state, n, reply)
+    runs::continue_by::<Imperative>(Format::Compact, netlist, state, n, reply)
 }
 
 pub fn hub_start(netlist: &[u8], state: &mut [u8], reply: &mut [u8]) -> bool
@@ -145,7 +147,7 @@ pub fn hub_start(netlist: &[u8], state: &mut [u8], reply: &mut [u8]) -> bool
     ensures state { state.new ≡ if_room reply.old (start_call Full netlist.now state.old).lent state.old }
     ensures reply { reply.new ≡ if_room reply.old (replied (answer_reply (start_call Full netlist.now state.old).answer) reply.old) reply.old }
 {
-    runs::start(Format::Full, netlist, state, reply)
+    runs::start::<Imperative>(Format::Full, netlist, state, reply)
 }
 
 pub fn hub_start_compact(netlist: &[u8], state: &mut [u8], reply: &mut [u8]) -> bool
@@ -153,7 +155,7 @@ pub fn hub_start_compact(netlist: &[u8], state: &mut [u8], reply: &mut [u8]) -> 
     ensures state { state.new ≡ if_room reply.old (start_call Compact netlist.now state.old).lent state.old }
     ensures reply { reply.new ≡ if_room reply.old (replied (answer_reply (start_call Compact netlist.now state.old).answer) reply.old) reply.old }
 {
-    runs::start(Format::Compact, netlist, state, reply)
+    runs::start::<Imperative>(Format::Compact, netlist, state, reply)
 }
 
 pub fn hub_run_netlist(
@@ -167,12 +169,7 @@ pub fn hub_run_netlist(
     ensures state { state.new ≡ if_room reply.old (run_netlist_call netlist.now words.now budget state.old).lent state.old }
     ensures reply { reply.new ≡ if_room reply.old (replied (answer_reply (run_netlist_call netlist.now words.now budget state.old).answer) reply.old) reply.old }
 {
-    if reply.len() < reply::LENGTH {
-        return false;
-    }
-    let answer = hub::run_netlist(netlist, words, budget, state);
-    reply::put(reply, reply::of_answer(answer));
-    true
+    runs::run::<Imperative>(netlist, words, budget, state, reply)
 }
 
 pub fn hub_run_program(
@@ -197,7 +194,7 @@ pub fn hub_run_program(
     }
     let options = hub::load_if(timed, table, procedures, pulse);
     let answer = hub::run_program(options, program, words, budget, netlist, state);
-    reply::put(reply, reply::of_answer(answer));
+    reply::put(reply, Reply::from(answer));
     true
 }
 
@@ -222,7 +219,7 @@ pub fn hub_slow_run(
     }
     let options = hub::load_if(timed, table, procedures, 1);
     let answer = hub::slow_run(options, program, words, budget, values, work);
-    reply::put(reply, reply::of_answer(answer));
+    reply::put(reply, Reply::from(answer));
     true
 }
 
@@ -244,7 +241,7 @@ pub fn hub_reference(
     }
     let options = hub::load_if(timed, table, procedures, pulse);
     let answer = hub::reference_run(options, program, words, budget);
-    reply::put(reply, reply::of_answer(answer));
+    reply::put(reply, Reply::from(answer));
     true
 }
 
@@ -266,7 +263,7 @@ pub fn hub_read_text(
     }
     let options = hub::load_if(timed, table, procedures, pulse);
     let answer = hub::read_text(options, source, program);
-    reply::put(reply, reply::of_written(answer));
+    reply::put(reply, Reply::from(answer));
     true
 }
 
@@ -288,7 +285,7 @@ pub fn hub_compile_text(
     }
     let options = hub::load_if(timed, table, procedures, pulse);
     let answer = hub::compile_text(options, source, file);
-    reply::put(reply, reply::of_written(answer));
+    reply::put(reply, Reply::from(answer));
     true
 }
 
@@ -314,6 +311,6 @@ pub fn hub_run_text(
     }
     let options = hub::load_if(timed, table, procedures, pulse);
     let answer = hub::run_text(options, source, words, budget, netlist, state);
-    reply::put(reply, reply::of_answer(answer));
+    reply::put(reply, Reply::from(answer));
     true
 }

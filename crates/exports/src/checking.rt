@@ -11,11 +11,11 @@ use model::sizes::MOST_CELLS;
 use model::{Checked, refuse};
 use netlist::rules::Scan;
 
-// The cell that a check of n begins with: the first, or, where there are too many, none, because 11 comes before what any cell is.
-pub fn first_looked(n: usize) -> usize
-    ensures { result ≡ pick (nat_le n cell_limit) 0 n }
+// How many of n cells a check looks at: all, or, where there are too many, none, because 11 comes before what any cell is.
+pub fn looked(n: usize) -> usize
+    ensures { result ≡ pick (nat_le n cell_limit) n 0 }
 {
-    if n <= MOST_CELLS { 0 } else { n }
+    if n <= MOST_CELLS { n } else { 0 }
 }
 
 // Refusals 11 and 12.

@@ -6,50 +6,10 @@ ghost use Rattle.model.specs.FunctionalCalls.{check_functional_call, compile_fun
 ghost use Rattle.model.specs.declared.Format.TheVariants.{Full, Compact};
 ghost use Rattle.reply.specs.Replies.{checked_reply, written_reply, answer_reply, replied, room_for, if_room};
 
+use crate::runs;
+use crate::runs::Functional;
 use model::Format;
-
-// The calls that take a state, in either format --------------------------------------------------------------------------------------------
-
-fn begin(format: Format, netlist: &[u8], words: &[u8], state: &mut [u8], reply: &mut [u8]) -> bool
-    ensures done { result ≡ room_for reply.old }
-    ensures state { state.new ≡ if_room reply.old (begin_functional_call format netlist.now words.now state.old).lent state.old }
-    ensures reply { reply.new ≡ if_room reply.old (replied (answer_reply (begin_functional_call format netlist.now words.now state.old).answer) reply.old) reply.old }
-{
-    if reply.len() < reply::LENGTH {
-        return false;
-    }
-    let answer = hub::begin_functional(format, netlist, words, state);
-    reply::put(reply, reply::of_answer(answer));
-    true
-}
-
-fn continue_by(format: Format, netlist: &[u8], state: &mut [u8], n: u32, reply: &mut [u8]) -> bool
-    ensures done { result ≡ room_for reply.old }
-    ensures state { state.new ≡ if_room reply.old (continue_functional_call format netlist.now n state.old).lent state.old }
-    ensures reply { reply.new ≡ if_room reply.old (replied (answer_reply (continue_functional_call format netlist.now n state.old).answer) reply.old) reply.old }
-{
-    if reply.len() < reply::LENGTH {
-        return false;
-    }
-    let answer = hub::continue_functional(format, netlist, state, n);
-    reply::put(reply, reply::of_answer(answer));
-    true
-}
-
-fn start(format: Format, netlist: &[u8], state: &mut [u8], reply: &mut [u8]) -> bool
-    ensures done { result ≡ room_for reply.old }
-    ensures state { state.new ≡ if_room reply.old (start_functional_call format netlist.now state.old).lent state.old }
-    ensures reply { reply.new ≡ if_room reply.old (replied (answer_reply (start_functional_call format netlist.now state.old).answer) reply.old) reply.old }
-{
-    if reply.len() < reply::LENGTH {
-        return false;
-    }
-    let answer = hub::start_functional(format, netlist, state);
-    reply::put(reply, reply::of_answer(answer));
-    true
-}
-
-// The exported calls ------------------------------------------------------------------------------------------------------------------------
+use reply::Reply;
 
 pub fn hub_check_functional(timed: bool, table: &[u8], program: &[u8], reply: &mut [u8]) -> bool
     ensures done { result ≡ room_for reply.old }
@@ -60,7 +20,7 @@ pub fn hub_check_functional(timed: bool, table: &[u8], program: &[u8], reply: &m
     }
     let options = hub::load_if(timed, table, 0, 1);
     let answer = hub::check_functional(options, program);
-    reply::put(reply, reply::of_checked(answer));
+    reply::put(reply, Reply::from(answer));
     true
 }
 
@@ -80,7 +40,7 @@ pub fn hub_compile_functional(
     }
     let options = hub::load_if(timed, table, 0, 1);
     let answer = hub::compile_functional(options, program, file);
-    reply::put(reply, reply::of_written(answer));
+    reply::put(reply, Reply::from(answer));
     true
 }
 
@@ -100,7 +60,7 @@ pub fn hub_reference_functional(
     }
     let options = hub::load_if(timed, table, 0, 1);
     let answer = hub::reference_functional(options, program, words, budget);
-    reply::put(reply, reply::of_answer(answer));
+    reply::put(reply, Reply::from(answer));
     true
 }
 
@@ -114,7 +74,7 @@ pub fn hub_begin_functional(
     ensures state { state.new ≡ if_room reply.old (begin_functional_call Full netlist.now words.now state.old).lent state.old }
     ensures reply { reply.new ≡ if_room reply.old (replied (answer_reply (begin_functional_call Full netlist.now words.now state.old).answer) reply.old) reply.old }
 {
-    begin(Format::Full, netlist, words, state, reply)
+    runs::begin::<Functional>(Format::Full, netlist, words, state, reply)
 }
 
 pub fn hub_begin_functional_compact(
@@ -127,7 +87,7 @@ pub fn hub_begin_functional_compact(
     ensures state { state.new ≡ if_room reply.old (begin_functional_call Compact netlist.now words.now state.old).lent state.old }
     ensures reply { reply.new ≡ if_room reply.old (replied (answer_reply (begin_functional_call Compact netlist.now words.now state.old).answer) reply.old) reply.old }
 {
-    begin(Format::Compact, netlist, words, state, reply)
+    runs::begin::<Functional>(Format::Compact, netlist, words, state, reply)
 }
 
 pub fn hub_continue_functional(netlist: &[u8], state: &mut [u8], n: u32, reply: &mut [u8]) -> bool
@@ -135,7 +95,7 @@ pub fn hub_continue_functional(netlist: &[u8], state: &mut [u8], n: u32, reply: 
     ensures state { state.new ≡ if_room reply.old (continue_functional_call Full netlist.now n state.old).lent state.old }
     ensures reply { reply.new ≡ if_room reply.old (replied (answer_reply (continue_functional_call Full netlist.now n state.old).answer) reply.old) reply.old }
 {
-    continue_by(Format::Full, netlist, state, n, reply)
+    runs::continue_by::<Functional>(Format::Full, netlist, state, n, reply)
 }
 
 pub fn hub_continue_functional_compact(
@@ -148,7 +108,7 @@ pub fn hub_continue_functional_compact(
     ensures state { state.new ≡ if_room reply.old (continue_functional_call Compact netlist.now n state.old).lent state.old }
     ensures reply { reply.new ≡ if_room reply.old (replied (answer_reply (continue_functional_call Compact netlist.now n state.old).answer) reply.old) reply.old }
 {
-    continue_by(Format::Compact, netlist, state, n, reply)
+    runs::continue_by::<Functional>(Format::Compact, netlist, state, n, reply)
 }
 
 pub fn hub_start_functional(netlist: &[u8], state: &mut [u8], reply: &mut [u8]) -> bool
@@ -156,7 +116,7 @@ pub fn hub_start_functional(netlist: &[u8], state: &mut [u8], reply: &mut [u8]) 
     ensures state { state.new ≡ if_room reply.old (start_functional_call Full netlist.now state.old).lent state.old }
     ensures reply { reply.new ≡ if_room reply.old (replied (answer_reply (start_functional_call Full netlist.now state.old).answer) reply.old) reply.old }
 {
-    start(Format::Full, netlist, state, reply)
+    runs::start::<Functional>(Format::Full, netlist, state, reply)
 }
 
 pub fn hub_start_functional_compact(netlist: &[u8], state: &mut [u8], reply: &mut [u8]) -> bool
@@ -164,7 +124,7 @@ pub fn hub_start_functional_compact(netlist: &[u8], state: &mut [u8], reply: &mu
     ensures state { state.new ≡ if_room reply.old (start_functional_call Compact netlist.now state.old).lent state.old }
     ensures reply { reply.new ≡ if_room reply.old (replied (answer_reply (start_functional_call Compact netlist.now state.old).answer) reply.old) reply.old }
 {
-    start(Format::Compact, netlist, state, reply)
+    runs::start::<Functional>(Format::Compact, netlist, state, reply)
 }
 
 pub fn hub_run_functional(
@@ -178,12 +138,7 @@ pub fn hub_run_functional(
     ensures state { state.new ≡ if_room reply.old (run_functional_call netlist.now words.now budget state.old).lent state.old }
     ensures reply { reply.new ≡ if_room reply.old (replied (answer_reply (run_functional_call netlist.now words.now budget state.old).answer) reply.old) reply.old }
 {
-    if reply.len() < reply::LENGTH {
-        return false;
-    }
-    let answer = hub::run_functional(netlist, words, budget, state);
-    reply::put(reply, reply::of_answer(answer));
-    true
+    runs::run::<Functional>(netlist, words, budget, state, reply)
 }
 
 pub fn hub_run_functional_program(
@@ -206,6 +161,6 @@ pub fn hub_run_functional_program(
     }
     let options = hub::load_if(timed, table, 0, 1);
     let answer = hub::run_functional_program(options, program, words, budget, netlist, state);
-    reply::put(reply, reply::of_answer(answer));
+    reply::put(reply, Reply::from(answer));
     true
 }

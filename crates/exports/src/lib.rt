@@ -5,7 +5,7 @@
 
 ghost use Rattle.std.specs.Prelude.{◌≡◌, ◌+◌, ◌*◌, ◌≤◌, length, Err};
 ghost use Rattle.std.proofs.lemmas.List.Edits.{sets};
-ghost use Rattle.model.specs.CellSlices.{moved_from, behind, check_cells_call, write_cells_call, read_cells_call};
+ghost use Rattle.model.specs.CellSlices.{behind, check_cells_call, write_cells_call, read_cells_call};
 ghost use Rattle.model.specs.NetlistFile.{cell_limit, cells_at, in_file, blocks_for};
 ghost use Rattle.reply.specs.Replies.{checked_reply, written_reply, replied, room_for, if_room};
 ghost use Rattle.netlist.specs.declared.cells.Layout.TheVariants.{InFile};
@@ -24,18 +24,19 @@ mod writing; // what writing tells
 use model::{Cell, Refusal};
 use netlist::cells::Layout;
 use netlist::rules::Scan;
+use reply::Reply;
 
 // What is found of a netlist's cells, one after another; of more than a netlist may have none is looked at.
+// A lent slice of cell structs is a form that is asked for, so this stands beside netlist::rules::check_cells, which has bytes.
 fn scanned(cells: &[Cell], finish: u16) -> Scan
     ensures { Looked cells.now finish (length cells.now) result }
 {
     let n = cells.len();
-    let mut scan = netlist::rules::begin(n, finish as usize);
-    for k in checking::first_looked(n)..n {
-        let c = cells[k];
+    let mut scan = netlist::rules::begin(n, usize::from(finish));
+    for (k, c) in cells[..checking::looked(n)].iter().enumerate() {
         let i = netlist::rules::input(n, k, c.a);
         let j = netlist::rules::input(n, k, c.b);
-        scan = netlist::rules::step(scan, k, c, cells[i].kind, cells[j].kind);
+        scan = netlist::rules::step(scan, k, *c, cells[i].kind, cells[j].kind);
     }
     scan
 }
@@ -49,11 +50,11 @@ pub fn hub_check_cells(cells: &[Cell], finish: u16, reply: &mut [u8]) -> bool
         return false;
     }
     let answer = checking::checked(scanned(cells, finish));
-    reply::put(reply, reply::of_checked(answer));
+    reply::put(reply, Reply::from(answer));
     true
 }
 
-// Puts the cells in as their file, whose blocks are numbered from first on.
+// Puts the cells in as their file, whose blocks are numbered from first on: the form of netlist::blocks::put_file for cell structs.
 fn put_cells(cells: &[Cell], first: u16, finish: u16, file: &mut [u8])
     requires { (length cells.now ≤ cell_limit) × (512 * blocks_for (length cells.now) ≤ length file.old) × (first ≤ 65280) }
     ensures { file.new ≡ sets file.old 0 (numbered first cells.now finish) }
@@ -82,7 +83,7 @@ pub fn hub_write_cells(
     }
     let scan = scanned(cells, finish);
     let answer = writing::told(pulse, scan, finish, file.len());
-    reply::put(reply, reply::of_written(answer));
+    reply::put(reply, Reply::from(answer));
     if answer.is_ok() {
         let first = netlist::blocks::first_number(u16::from(pulse));
         put_cells(cells, first, finish, file);
@@ -90,13 +91,12 @@ pub fn hub_write_cells(
     true
 }
 
-// Moves the inputs of the cells from number `from` up to `end` k places on.
-fn renumber(cells: &mut [Cell], from: usize, end: usize, k: u16)
-    requires { end ≤ length cells.old }
-    ensures { cells.new ≡ moved_from k end cells.old from }
+// Moves the inputs of the cells k places on. A lent slice of cell structs is a form that is asked for, so this stands beside moves::renumber_bytes.
+fn renumber(cells: &mut [Cell], k: u16)
+    ensures { cells.new ≡ behind k cells.old }
 {
-    for i in from..end {
-        cells[i] = moves::moved(cells[i], k);
+    for c in cells.iter_mut() {
+        *c = moves::moved(*c, k);
     }
 }
 
@@ -105,10 +105,11 @@ fn place_cells(cells: &mut [Cell], at: usize, n: usize, file: &[u8])
     requires { (at + n ≤ length cells.old) × Room InFile file.now n }
     ensures { cells.new ≡ sets cells.old at (behind at (cells_at in_file file.now 0 n)) }
 {
-    for j in 0..n {
-        cells[at + j] = netlist::cells::cell_at(file, Layout::InFile, j);
+    let places = &mut cells[at..at + n];
+    for (j, c) in places.iter_mut().enumerate() {
+        *c = netlist::cells::cell_at(file, Layout::InFile, j);
     }
-    renumber(cells, at, at + n, (at % 65536) as u16)
+    renumber(places, (at % 65536) as u16);
 }
 
 // Reads a netlist file behind the first `at` cells: refusals 9 to 12, 14.
@@ -121,7 +122,7 @@ pub fn hub_read_cells(file: &[u8], at: usize, cells: &mut [Cell], reply: &mut [u
         return false;
     }
     let answer = reading::told(file, at, cells.len());
-    reply::put(reply, reply::of_written(answer));
+    reply::put(reply, Reply::from(answer));
     if let Ok(w) = answer {
         place_cells(cells, at, w.count, file);
     }

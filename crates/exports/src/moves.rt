@@ -15,7 +15,8 @@ pub fn moved(c: Cell, k: u16) -> Cell
     netlist::moves::rewired(c, c.a.wrapping_add(k), c.b.wrapping_add(k))
 }
 
-// The cells from number `from` up to `end` moved k places on.
+// The cells from number `from` up to `end` moved k places on. They go by number: of chunks that are lent to be
+// written a proof knows, after the loop, the lengths alone.
 fn renumber_bytes(cells: &mut [u8], from: usize, end: usize, k: u16)
     requires { (end ≤ cell_limit) × (6 * end ≤ length cells.old) }
     ensures { cells.new ≡ moved_bytes k end cells.old from }

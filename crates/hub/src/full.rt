@@ -10,9 +10,8 @@ ghost use Rattle.model.specs.Calls.{ReturnedBoth, overwrite, shows, full_state, 
 ghost use Rattle.state.specs.Stands.{Runs};
 ghost use Rattle.hub.specs.Lent.{lent_checks, asked, HasCells, Tells};
 
-use model::sizes::{
-    BLOCK, BLOCK_CELLS, BLOCK_LAST, ELEMENTS, LAST_INSTANT, START_WORDS, STATE_CELL, STATE_HEADER,
-};
+use model::asked::check_asked;
+use model::sizes::{BLOCK, ELEMENTS, STATE_CELL, STATE_HEADER};
 use model::{Answer, Checked, Options, refuse};
 
 // A kind of circuit that programs are compiled to.
@@ -49,18 +48,13 @@ pub trait Circuit {
     ghost tells: { (options : Options) (program words : List ℕ) (budget : ℕ) (netlist state : List ℕ) → Tells (first (checked options program ∷ asked (made options program) words budget netlist state)) told (made options program) words budget netlist state (called options program words budget netlist state) };
 }
 
-// Refusals 13 and 14, where the netlist has n cells.
+// Refusals 13 and 14, where the netlist has n cells. Of a state the simulator asks the same, in either format and of no other buffer.
 fn check_lent(n: usize, words: &[u8], budget: u32, netlist: &[u8], state: &[u8]) -> Checked
     requires { n ≤ cell_limit }
     ensures { result ≡ first (lent_checks n words.now budget netlist.now state.now) }
 {
-    if LAST_INSTANT < budget {
-        return refuse(13, 0);
-    }
-    if words.len() < START_WORDS {
-        return refuse(14, 0);
-    }
-    if netlist.len() < BLOCK * ((n + BLOCK_LAST) / BLOCK_CELLS) {
+    check_asked(budget, words)?;
+    if netlist.len() < BLOCK * netlist::blocks::blocks_for(n) {
         return refuse(14, 0);
     }
     if state.len() < STATE_HEADER + STATE_CELL * n + ELEMENTS {
@@ -69,7 +63,7 @@ fn check_lent(n: usize, words: &[u8], budget: u32, netlist: &[u8], state: &[u8])
     Ok(())
 }
 
-// The circuit's own refusals, 13, 14.
+// The circuit's own refusals, 13, 14. What is given and lent to a full run stays, here and below, as callers hand it over: a struct would be made for one call.
 fn check<C: Circuit>(
     options: Options,
     program: &[u8],

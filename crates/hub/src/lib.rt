@@ -3,8 +3,8 @@
 // pulse length are loaded as.
 #![tactic(auto)]
 
-ghost use Rattle.std.specs.Prelude.{◌≡◌};
-ghost use Rattle.model.specs.TimeTables.{given_if, beside, load, defaults};
+ghost use Rattle.std.specs.Prelude.{◌≡◌, MatchOption};
+ghost use Rattle.model.specs.TimeTables.{built_in, given, given_if, beside, load, defaults};
 ghost use Rattle.model.specs.Calls.{check_call, compile_call, write_call, read_call, begin_call, continue_call, start_call, run_netlist_call, run_program_call, reference_call};
 ghost use Rattle.model.specs.FunctionalCalls.{check_functional_call, compile_functional_call, reference_functional_call, begin_functional_call, continue_functional_call, start_functional_call, run_functional_call, run_functional_program_call};
 ghost use Rattle.model.specs.Gates.{slow_run_call};
@@ -26,7 +26,22 @@ pub fn defaults() -> Options
 }
 
 // What a table of operator times, a number of procedures and a pulse length are loaded as: refusals 27 and 19 to 21, which the calls tell; that a
-// number of procedures above 8 is 1 they find themselves. A flag tells whether a table is given; without one the built-in times serve.
+// number of procedures above 8 is 1 they find themselves. Without a table the built-in times serve.
+#[tactic(auto, unfolding(model::specs::TimeTables::load))]
+pub fn load(table: Option<&[u8]>, procedures: usize, pulse: u8) -> Options
+    ensures { MatchOption table.entry (result ≡ load (beside built_in procedures pulse)) (λ file. result ≡ load (beside (given file.now) procedures pulse)) }
+{
+    match table {
+        Some(file) => program::tables::load(file, procedures, pulse),
+        None => Options {
+            procedures,
+            pulse,
+            ..program::tables::defaults()
+        },
+    }
+}
+
+// The same for callers that have no Option, as C: a flag tells whether the table is given.
 pub fn load_if(timed: bool, table: &[u8], procedures: usize, pulse: u8) -> Options
     ensures { result ≡ load (beside (given_if timed table.now) procedures pulse) }
 {
@@ -186,6 +201,7 @@ pub fn run_text(
 
 // Functional circuits --------------------------------------------------------------------------------------------------------------------
 // Of what is given beside a program the table alone counts.
+// Each call has a name of its own, which documents and other crates cite; the runs of both kinds are one trait where they are used (exports, Runs).
 
 pub fn check_functional(options: Options, program: &[u8]) -> Checked
     ensures { result ≡ check_functional_call options program.now }

@@ -1,4 +1,4 @@
-// The text of an answer, put into a lent buffer of bytes. Each contract tells the place after what was put in, and the buffer's list at
+// The text of an answer, put into a lent buffer of bytes, for there is no heap. Each contract tells the place after what was put in, and the buffer's list at
 // exit: `sets d i v` is d with v put in from i on; the texts themselves are model/Hubrun's.
 ghost use Rattle.std.specs.Prelude.{◌≡◌, [], ◌∷◌, ◌++◌, map, ◌+◌, ◌≤◌, length, take, drop, replicate};
 ghost use Rattle.std.proofs.lemmas.List.Edits.{sets};
@@ -17,8 +17,8 @@ fn put_words(out: &mut [u8], at: usize, words: [u16; 16]) -> usize
     ensures out { out.new ≡ sets out.old at (line (map decimal words)) }
 {
     let mut next = at;
-    for k in 0..15 {
-        next = lines::put_number(out, next, usize::from(words[k]), b' ');
+    for w in &words[..15] {
+        next = lines::put_number(out, next, usize::from(*w), b' ');
     }
     lines::put_number(out, next, usize::from(words[15]), b'\n')
 }

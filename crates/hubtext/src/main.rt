@@ -4,20 +4,12 @@
 mod output;
 
 use std::io;
-use std::io::{Read, Write};
+use std::io::Write;
 
 // A text above 4,096 bytes is refused whatever follows, so 4,097 bytes tell all (cut-text in proofs/Outputs).
 fn main(rt: HostRuntime) -> io::Result<()> {
     let mut source = [0u8; 4097];
-    let mut count = 0;
-    // How many bytes a read gives is known only after it, so no `for` walks over them.
-    while count < source.len() {
-        let read = rt.stdin().read(&mut source[count..])?;
-        if read == 0 {
-            break;
-        }
-        count += read;
-    }
+    let count = lines::read_all(&mut rt.stdin(), &mut source)?;
     let mut out = [0u8; 1024];
     let length = output::output(&source[..count], &mut out);
     if rt.stdout().write_all(&out[..length]).is_err() {

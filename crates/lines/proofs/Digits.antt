@@ -7,6 +7,8 @@ use native.Mathlib.Nat.{pow-succ'}
 use lib.ListN.{length, length-append}
 use borrow.Author.Tests.{ltb-true, ltb-false, lt-ltb, le-ltb}
 use lib.Dec.{ltb}
+use Rattle.std.specs.Fmt as Fmt
+use Rattle.std.proofs.lemmas.Fmt.{decimal_by_steps}
 use Rattle.model.specs.Hubrun.{digits, decimal}
 use Rattle.laws.specs.Refusals.Laws.{by_bool}
 
@@ -36,9 +38,6 @@ decimal-one {n} h = one-digit 19 n h
 pub decimal-more : {n : ℕ} → 10 ≤ n → n < 18446744073709551616 → decimal n ≡ decimal (n / 10) ++ ((48 + n % 10) ∷ [])
 decimal-more {n} h f = rw (last-digit 19 n h, enough 18 (n / 10) (omega arith)) refl
 
-pub decimal-more-length : {n : ℕ} → 10 ≤ n → n < 18446744073709551616 → length (decimal n) ≡ length (decimal (n / 10)) + 1
-decimal-more-length {n} h f = rw (decimal-more h f) (length-append (decimal (n / 10)) ((48 + n % 10) ∷ []))
-
 digits-length : (m n : ℕ) → length (digits m n) ≤ m
 unfolding digits
 digits-length zero n = omega arith
@@ -50,4 +49,9 @@ digits-length (suc m) n =
 pub decimal-length : (n : ℕ) → length (decimal n) ≤ 20
 decimal-length n = digits-length 20 n
 
-pub ruleset by_digits = (decimal-one, decimal-more, decimal-more-length)
+-- the digits that a number is printed with
+pub same_decimal : (n : ℕ) → n < 18446744073709551616 → Fmt.decimal n ≡ decimal n
+same_decimal n f =
+    decimal_by_steps (λ (m : ℕ) (ds : List ℕ). m < 18446744073709551616 → ds ≡ decimal m) (λ m h _. sym (decimal-one h))
+    (λ m ds h e g. ap (λ (l : List ℕ). l ++ ((48 + m % 10) ∷ [])) (e (omega arith)) ∙ sym (decimal-more h g))
+    n f f

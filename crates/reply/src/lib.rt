@@ -9,7 +9,7 @@ use model::{Answer, Checked, Outcome, Refusal, Written};
 
 pub const LENGTH: usize = 48;
 
-// The kind is a number, since callers in other languages read it as a byte.
+// The kind and a refusal's number are numbers, since callers in other languages read them as bytes 0 and 1 (specs/Replies).
 #[derive(Drop)]
 pub struct Reply {
     pub kind: u8,
@@ -20,16 +20,19 @@ pub struct Reply {
     pub words: [u16; 16],
 }
 
-fn of_refusal(r: Refusal) -> Reply
-    ensures { result ≡ refused_reply r }
-{
-    Reply {
-        kind: 3,
-        number: r.number,
-        place: (r.place % 4294967296) as u32,
-        first: 0,
-        second: 0,
-        words: [0u16; 16],
+// A place, and a number of bytes or cells, as far as four bytes tell it.
+impl From<Refusal> for Reply {
+    ghost from_gives = { λ r reply. reply ≡ refused_reply r };
+
+    fn from(r: Refusal) -> Reply {
+        Reply {
+            kind: 3,
+            number: r.number,
+            place: (r.place % 4294967296) as u32,
+            first: 0,
+            second: 0,
+            words: [0; 16],
+        }
     }
 }
 
@@ -46,35 +49,42 @@ fn of_numbers(kind: u8, first: u32, second: u32, words: [u16; 16]) -> Reply
     }
 }
 
-pub fn of_checked(c: Checked) -> Reply
-    ensures { result ≡ checked_reply c }
-{
-    match c {
-        Ok(()) => of_numbers(0, 0, 0, [0u16; 16]),
-        Err(r) => of_refusal(r),
-    }
-}
+#[tactic(auto, unfolding(crate::specs::Replies::checked_reply))]
+impl From<Checked> for Reply {
+    ghost from_gives = { λ c reply. reply ≡ checked_reply c };
 
-pub fn of_written(w: Result<Written, Refusal>) -> Reply
-    ensures { result ≡ written_reply w }
-{
-    match w {
-        Ok(Written { count, finish }) => {
-            of_numbers(0, (count % 4294967296) as u32, finish as u32, [0u16; 16])
+    fn from(c: Checked) -> Reply {
+        match c {
+            Ok(()) => of_numbers(0, 0, 0, [0; 16]),
+            Err(r) => Reply::from(r),
         }
-        Err(r) => of_refusal(r),
     }
 }
 
-pub fn of_answer(a: Answer) -> Reply
-    ensures { result ≡ answer_reply a }
-{
-    let outcome = a.outcome;
-    let words = a.words;
-    match outcome {
-        Outcome::Ended => of_numbers(1, a.instant, a.count, words),
-        Outcome::Open => of_numbers(2, a.instant, a.count, words),
-        Outcome::Refused(r) => of_refusal(r),
+#[tactic(auto, unfolding(crate::specs::Replies::written_reply))]
+impl From<Result<Written, Refusal>> for Reply {
+    ghost from_gives = { λ w reply. reply ≡ written_reply w };
+
+    fn from(w: Result<Written, Refusal>) -> Reply {
+        match w {
+            Ok(Written { count, finish }) => {
+                of_numbers(0, (count % 4294967296) as u32, u32::from(finish), [0; 16])
+            }
+            Err(r) => Reply::from(r),
+        }
+    }
+}
+
+#[tactic(auto, unfolding(crate::specs::Replies::outcome_reply))]
+impl From<Answer> for Reply {
+    ghost from_gives = { λ a reply. reply ≡ answer_reply a };
+
+    fn from(a: Answer) -> Reply {
+        match a.outcome {
+            Outcome::Ended => of_numbers(1, a.instant, a.count, a.words),
+            Outcome::Open => of_numbers(2, a.instant, a.count, a.words),
+            Outcome::Refused(r) => Reply::from(r),
+        }
     }
 }
 

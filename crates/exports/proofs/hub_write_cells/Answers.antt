@@ -9,7 +9,7 @@ put_cells-requires c =
     let args = c.args in
     let (w, e) = is-done c.told-answer.result (sym c.is_ok.ensures.value ∙ c.if-is_ok.true) in
     done-fits args.pulse args.cells.now args.finish args.file.now (sym e ∙ c.told-answer.ensures args.cells.now args.file.now c.scanned-scan.ensures refl)
-    (rw c.from.ensures at c.first_number-first.ensures)
+    (rw c.from-then-is_ok.ensures at c.first_number-first.ensures)
 
 pub returns-then-is_ok-clause-file : goal.returns-then-is_ok-clause-file
 returns-then-is_ok-clause-file c =
@@ -17,7 +17,7 @@ returns-then-is_ok-clause-file c =
     let (w, e) = is-done c.told-answer.result (sym c.is_ok.ensures.value ∙ c.if-is_ok.true) in
     left args.reply.now c.if-reply-lt-LENGTH.false _ _ _
     (done-put args.pulse args.cells.now args.finish args.file.now (sym e ∙ c.told-answer.ensures args.cells.now args.file.now c.scanned-scan.ensures refl)
-    (rw c.from.ensures at c.first_number-first.ensures) c.put_cells.ensures)
+    (rw c.from-then-is_ok.ensures at c.first_number-first.ensures) c.put_cells.ensures)
 
 pub returns-else-is_ok-clause-file : goal.returns-else-is_ok-clause-file
 returns-else-is_ok-clause-file c =

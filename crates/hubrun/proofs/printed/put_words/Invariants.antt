@@ -7,7 +7,7 @@ use lib.Seq.{sets}
 use Rattle.hubrun.proofs.Lines.{line_from}
 use Rattle.hubrun.proofs.printed.put_words.Given as goal
 
-abbrev pub invariant-loop-k : goal.invariant-loop-k
-invariant-loop-k l =
-    (l.at + length (line_from l.words 0) ≡ l.next + length (line_from l.words l.k))
-    × (sets l.initial.out l.at (line_from l.words 0) ≡ sets l.out l.next (line_from l.words l.k))
+abbrev pub invariant-loop-w : goal.invariant-loop-w
+invariant-loop-w l =
+    (l.at + length (line_from l.fn.words 0) ≡ l.next + length (line_from l.fn.words l.w-index))
+    × (sets l.initial.out l.at (line_from l.fn.words 0) ≡ sets l.out l.next (line_from l.fn.words l.w-index))

@@ -7,12 +7,13 @@ ghost use Rattle.joiner.specs.Gates.{gates_in};
 
 use model::sizes::NODE;
 
-// Of each assignment its variable; of each element assignment its array as a variable, and then 20 for its index. Of a node there are none, one or
-// two, so that they are counted by themselves. Numbers, as the marks have them (compiler::ors): a mark is a variable, an array being one of 16 to 19,
+// Of each assignment its variable; of each element assignment its array as a variable, and then 20 for its index. Answers how many they are: of a
+// node none, one or two, so that they are counted by themselves. Numbers, as the marks have them (compiler::ors): a mark is a variable, an array being one of 16 to 19,
 // and an index has none of its own.
-pub fn put_gates(gates: &mut [u16], program: &[u8])
+pub fn put_gates(gates: &mut [u16], program: &[u8]) -> usize
     requires { (length gates.old ≡ 400) × Readable 0 program.now }
-    ensures { gates.new ≡ sets gates.old 0 (gates_in (nodes_at program.now 0)) }
+    ensures count { result ≡ length (gates_in (nodes_at program.now 0)) }
+    ensures put { gates.new ≡ sets gates.old 0 (gates_in (nodes_at program.now 0)) }
 {
     let mut next: usize = 0;
     for bytes in program.chunks_exact(NODE) {
@@ -30,4 +31,5 @@ pub fn put_gates(gates: &mut [u16], program: &[u8])
             _ => {}
         }
     }
+    next
 }

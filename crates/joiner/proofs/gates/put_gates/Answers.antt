@@ -82,4 +82,4 @@ returns c =
     let loop = c.loop-bytes in
     let known = loop.invariant in
     let g = gates-end c.args.program.now known.i (nodes-end known.cut c.next.new.self c.in-None.ensures.steps) in
-    sym (known.put ∙ ap (sets loop.gates loop.next) g)
+    record { count = omega (arith, known.all, ap length g); put = sym (known.put ∙ ap (sets loop.gates loop.next) g) }

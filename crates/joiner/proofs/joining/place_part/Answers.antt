@@ -20,7 +20,7 @@ put_marks-mark-requires c =
     let P = stmt_at args.program.now 0 in
     let own = own_of.ensures (pulse_of args.file.now) P pre.compiled in
     let done = put-part.ensures (pulse_of args.file.now) P own in
-    rw (c.from.ensures, c.from-2.ensures) (walk-room (pre) refl done, walk-onward (pre) refl done, marks-room (pre) refl done _ refl c.put_gates.ensures)
+    rw (c.from.ensures, c.from-2.ensures) (walk-room (pre) refl done, walk-onward (pre) refl done, marks-room (pre) refl done _ refl c.put_gates.ensures.put)
 
 pub returns : goal.returns
 returns c =
@@ -32,4 +32,4 @@ returns c =
     let own = own_of.ensures (pulse_of args.file.now) P pre.compiled in
     let done = put-part.ensures (pulse_of args.file.now) P own in
     let marks = rw (c.from.ensures, c.from-2.ensures) at c.put_marks-mark.ensures in
-    part-done (pre) refl done _ refl c.put_gates.ensures marks.next marks.put
+    part-done (pre) refl done _ refl c.put_gates.ensures.put marks.next marks.put

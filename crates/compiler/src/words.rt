@@ -13,10 +13,10 @@ pub trait Words {
         requires { x < 16 }
         ensures { (ws : Wires) → come_on self.now ws → result ≡ ws x };
 
-    // The wire of array a, which is variable 16 + a.
+    // The wire of array a, which is variable 16 + a, where arrays have any. No Option: the walk would unwrap it at each element.
     fn array(&self, a: u16) -> u16
-        requires { has_arrays self.now × (a < 4) }
-        ensures { (ws : Wires) → come_on self.now ws → result ≡ ws (array_var a) };
+        requires { a < 4 }
+        ensures { has_arrays self.now → (ws : Wires) → come_on self.now ws → result ≡ ws (array_var a) };
 
     // Some wires do.
     ghost some_wires: { (w : Self) → (ws : Wires) × come_on w ws };

@@ -74,7 +74,7 @@ array-requires g t c =
     let here = c.expr_node-node.ensures.here c.if-kind-eq1.false in
     let elem_of : expr_at c.args.tree.now.program.now c.args.i ≡ elem c.expr_node-node.result.n (expr_at c.args.tree.now.program.now (c.args.i + 1)) = at-elem _ _ here.0 _ here.2 c.if-kind-eq10.true in
     let ready = rw elem_of at c.requires.1 in
-    (elem-words c.requires.2 elem_of, ready.formed.0)
+    ready.formed.0
 
 pub put_word-requires-then-kind-eq10 : goal.put_word-requires-then-kind-eq10
 unfolding expr_count
@@ -89,7 +89,7 @@ pub returns-then-kind-eq10 : goal.returns-then-kind-eq10
 returns-then-kind-eq10 g t c =
     let here = c.expr_node-node.ensures.here c.if-kind-eq1.false in
     let elem_of : expr_at c.args.tree.now.program.now c.args.i ≡ elem c.expr_node-node.result.n (expr_at c.args.tree.now.program.now (c.args.i + 1)) = at-elem _ _ here.0 _ here.2 c.if-kind-eq10.true in
-    λ ws come. rw (elem_of, c.put_word-then-kind-eq10.ensures.word) (elem-done (c.put_expr-e-then-kind-eq10.ensures ws come) (c.array.ensures ws come) c.put_word-then-kind-eq10.ensures.cells)
+    λ ws come. rw (elem_of, c.put_word-then-kind-eq10.ensures.word) (elem-done (c.put_expr-e-then-kind-eq10.ensures ws come) (c.array.ensures (elem-words c.requires.2 elem_of) ws come) c.put_word-then-kind-eq10.ensures.cells)
 
 pub next-second-requires : goal.next-second-requires
 next-second-requires g t c = omega (arith, c.requires.0.short)

@@ -27,7 +27,9 @@ fn clears(kind: u8, own: bool, first: bool, second: bool) -> bool
 
 impl Circuit<'_> {
     // Marks them; `check_cleared` tells whether the marks are right.
-    pub fn find_cleared(&self) -> [bool; 1024] {
+    pub fn find_cleared(&self) -> [bool; 1024]
+        ensures { length result ≡ 1024 }
+    {
         let mut cleared = [false; 1024];
         for (k, c) in self.cells.iter().enumerate() {
             let (i, j) = inputs(*c);

@@ -41,7 +41,9 @@ impl Circuit<'_> {
     }
 
     // The sets; `check_followed` tells whether they are right.
-    pub fn find_followed(&self, rank: &[u8; 1024]) -> [u32; 1024] {
+    pub fn find_followed(&self, rank: &[u8; 1024]) -> [u32; 1024]
+        ensures { length result ≡ 1024 }
+    {
         let mut sets = [0; 1024];
         for (k, c) in self.cells.iter().enumerate() {
             let (i, j) = inputs(*c);

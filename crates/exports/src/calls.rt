@@ -1,7 +1,8 @@
 // The calls on bytes: numbers and byte slices in, the answer as 48 bytes in a lent buffer (reply/specs/Replies).
-// Each answers whether there was room for the reply; where there was none it did nothing. Each asks that itself before its call, which writes into lent
-// lists: of a closure that made the call a helper would know the result, and not what it leaves in the lists; and one that took these, too, would stand
-// here for none, one and two of them.
+// Each answers whether there was room for the reply; where there was none it did nothing. Those on a netlist's state, which are begin, continue, start and
+// run_netlist, ask that in `runs`, once for each of the four. Each other one asks it itself before its call, which writes into lent lists: of a closure that
+// made the call a helper would know the result, and not what it leaves in the lists; and one that took these, too, would stand here for none, one and two of
+// them.
 // Before a program or a text stands what is given beside it: a flag that tells whether a table of operator times is given, the table, the number of
 // procedures, and the pulse length, which a slow run has not. Flags, lengths in a list of their own and so many parameters are the C interface's (exports_c).
 ghost use Rattle.std.specs.Prelude.{◌≡◌};

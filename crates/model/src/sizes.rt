@@ -8,6 +8,9 @@ pub const BLOCK_HEADER: usize = 8;
 
 pub const BLOCK_CELLS: usize = 84;
 
+// Blocks are rounded up by netlist's `blocks_for`, which does without it.
+pub const BLOCK_LAST: usize = 83;
+
 pub const CELL: usize = 6;
 
 pub const MOST_CELLS: usize = 16384;

@@ -19,7 +19,7 @@ fn put_elements(state: &mut [u8], i: usize, words: &[u8])
     requires { (i + 512 ≤ length state.old) × (544 ≤ length words.now) }
     ensures { state.new ≡ sets state.old i (word_bytes (word_at words.now) 16 256) }
 {
-    state[i..i + ELEMENTS].copy_from_slice(&words[VARIABLES..START_WORDS]);
+    word::copy(&mut state[i..i + ELEMENTS], &words[VARIABLES..START_WORDS]);
 }
 
 // What cell k, which is c, shows at instant 0; j memories stand below it.

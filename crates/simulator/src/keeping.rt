@@ -22,7 +22,7 @@ pub fn copy(to: &mut [u8], i: usize, from: &[u8], j: usize, n: usize)
     requires { (i + n ≤ length to.old) × (j + n ≤ length from.now) }
     ensures { to.new ≡ paste to.old i (drop j from.now) n }
 {
-    to[i..i + n].copy_from_slice(&from[j..j + n]);
+    word::copy(&mut to[i..i + n], &from[j..j + n]);
 }
 
 // Here and in taking back k numbers a cell of a state and a word of the list, each at a place of its own: of chunks that were lent to be written a proof

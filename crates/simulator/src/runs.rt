@@ -228,6 +228,8 @@ pub fn full_run(file: &[u8], words: &[u8], budget: u32, state: &mut [u8]) -> Ans
     if wires::is_high(Format::Full, state, source.h.finish) {
         return shows(&source, state, 1);
     }
-    let went = continue_in(&source, false, state, budget);
+    // By `continue_state`, since `continue_in` takes 33 kB of stack, which only a compact state needs.
+    let mut none = [0u8; 0];
+    let went = continue_state(&source, false, state, budget, &mut none);
     shows(&source, state, 1 + went.count)
 }

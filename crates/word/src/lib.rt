@@ -74,6 +74,17 @@ pub fn put32(s: &mut [u8], i: usize, v: u32)
     put_bytes(s, i, &v.to_le_bytes());
 }
 
+// The bytes of a list become another's, which is as long. Number by number: lists that are lent apart are copied by memcpy so, where the slice's own method
+// asks for memmove, which the archive for C does without.
+pub fn copy(to: &mut [u8], from: &[u8])
+    requires { length to.old ≡ length from.now }
+    ensures { to.new ≡ from.now }
+{
+    for k in 0..from.len() {
+        to[k] = from[k];
+    }
+}
+
 // Bytes one after another, from `at` on; answers the place after them.
 pub fn put_bytes(out: &mut [u8], at: usize, bytes: &[u8]) -> usize
     requires { at + length bytes.now ≤ length out.old }

@@ -12,4 +12,4 @@ returns c =
     let args = c.args in
     let n : args.i + 512 - args.i ≡ 512 = omega arith in
     let words = words-bytes args.words.now (λ i. omega (arith, c.type_inv.words i)) 16 256 (omega arith) in
-    rw (n, c.copy_from_slice.ensures.after, ← words) (part-sets args.state.now _ args.i 512 (length-words (word_at args.words.now) 16 256) (omega arith))
+    rw (n, c.copy.ensures, ← words) (part-sets args.state.now _ args.i 512 (length-words (word_at args.words.now) 16 256) (omega arith))

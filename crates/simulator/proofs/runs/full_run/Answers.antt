@@ -7,14 +7,14 @@ use native.Mathlib.Omega.{arith}
 use Rattle.model.specs.Calls.{word_at, shows}
 use Rattle.model.specs.Circuit.{high}
 use Rattle.model.specs.State.{now_at}
-use Rattle.model.specs.NetlistFile.{net_of}
+use Rattle.model.specs.NetlistFile.{net_of, finish_of}
 use Rattle.model.specs.declared.Format.TheVariants.{Full}
 use Rattle.netlist.proofs.Headers.{header-finish}
 use Rattle.state.proofs.Files.{file-sized, file-stands, file-ordered}
 use Rattle.simulator.proofs.AcceptedFile.{begin-instant, reruns}
 use Rattle.simulator.proofs.InFlight.{begun-ready}
 use Rattle.simulator.proofs.Answers.{full-ended, full-open}
-use Rattle.simulator.proofs.Continuing.{count_under}
+use Rattle.simulator.proofs.Continuing.{count_under, full-accepted}
 use Rattle.simulator.proofs.runs.full_run.Goals as goal
 
 pub is_high-requires : goal.is_high-requires
@@ -37,8 +37,8 @@ returns-then-is_high c =
     let z = full-ended file args.words.now args.budget args.state.now _ begin-state.ensures up in
     record { state = z.0; answer = c.shows.ensures ∙ ap₂ (shows Full file) z.0 z.1 }
 
-pub continue_in-went-requires : goal.continue_in-went-requires
-continue_in-went-requires c =
+pub continue_state-went-requires : goal.continue_state-went-requires
+continue_state-went-requires c =
     let header_of = c.header_of in
     let args = c.args in
     let pre = c.requires in
@@ -55,19 +55,20 @@ continue_in-went-requires c =
 pub overflow_add-went : goal.overflow_add-went
 overflow_add-went c =
     let pre = c.requires in
-    let low = count_under Full _ false _ _ _ _ c.continue_in-went.ensures.count in
+    let low = count_under Full _ false _ _ _ _ c.continue_state-went.ensures.count in
     omega (arith, low, pre.2)
 
 pub returns : goal.returns
 returns c =
     let header_of = c.header_of in
-    let continue-in = c.continue_in-went in
+    let went-on = c.continue_state-went in
     let begin-state = c.begin_state in
     let is-high = c.is_high in
     let if1 = c.if-is_high in
     let args = c.args in
-    let went = continue-in.ensures in
+    let went = went-on.ensures in
+    let accepted = full-accepted (net_of args.file.now) false (finish_of args.file.now) args.budget begin-state.new.state in
     let file : List ℕ = args.file.now in
     let low = ap (λ (f : ℕ). high (now_at Full begin-state.new.state f)) (sym (header-finish file header_of.ensures)) ∙ sym is-high.ensures ∙ if1.false in
-    let z = full-open file args.words.now args.budget args.state.now _ begin-state.ensures low _ _ went.state went.count in
+    let z = full-open file args.words.now args.budget args.state.now _ begin-state.ensures low _ _ (went.state (went.check ∙ accepted)) went.count in
     record { state = z.0; answer = c.shows-2.ensures ∙ ap₂ (shows Full file) z.0 z.1 }

@@ -1,61 +1,60 @@
-// The cells of a netlist, and the numbers of its delays and registers.
-ghost use Rattle.std.specs.Prelude.{◌≡◌, ◌%◌, ◌≤◌, IfSome, length};
-ghost use Rattle.model.specs.Circuit.{cell_at};
+// The cells of a netlist file, field by field, and the numbers of its delays and registers.
+ghost use Rattle.std.specs.Prelude.{◌≡◌, ◌%◌, ◌<◌, ◌≤◌, IfSome, length, get_or};
 ghost use Rattle.model.specs.NetlistFile.{in_file, cells_at};
 ghost use Rattle.netlist.specs.declared.cells.Layout.TheVariants.{InFile};
 ghost use Rattle.netlist.specs.Offsets.{Room};
-ghost use Rattle.engine_laws.specs.Decoded.{Ranks, Delays};
+ghost use Rattle.engine_laws.specs.Decoded.{Decoded, Ranks, Delays};
 
-use model::Cell;
 use netlist::cells::{self, Layout};
 
 // The most delays that have a number.
 pub const DELAYS: usize = 256;
 
-// The cells of a netlist, of which the engine has room for 1,024.
+// The cells of a netlist, field by field; there are n, and the engine has room for 1,024. The lists are the caller's, and may be longer; one that no call
+// reads may be empty.
 #[derive(Clone, Copy)]
 pub struct Circuit<'a> {
-    pub cells: &'a [Cell],
-    ghost few: { length cells.now ≤ 1024 },
+    pub kind: &'a [u8],
+    pub delay: &'a [u8],
+    pub a: &'a [u16],
+    pub b: &'a [u16],
+    pub n: usize,
+    ghost few: { n ≤ 1024 },
 }
 
-// Numbers for delays and registers, and the cell of each delay, of which there are `count`: no heap, so a list has room for the most of them.
-#[derive(Clone, Copy)]
-pub struct Numbers {
-    pub rank: [u8; 1024],
-    pub delays: [u16; 256],
-    pub count: usize,
-}
-
-// The first cells of a file, as many as the list has.
-pub fn read_cells(cells: &mut [Cell], file: &[u8])
-    requires { Room InFile file.now (length cells.old) }
-    ensures { cells.new ≡ cells_at in_file file.now 0 (length cells.old) }
+// The fields of the first n cells of a file.
+pub fn read_cells(
+    kind: &mut [u8],
+    delay: &mut [u8],
+    a: &mut [u16],
+    b: &mut [u16],
+    file: &[u8],
+    n: usize,
+)
+    requires { Room InFile file.now n × (n ≤ length kind.old) × (n ≤ length delay.old) × (n ≤ length a.old) × (n ≤ length b.old) }
+    ensures { Decoded (cells_at in_file file.now 0 n) kind.new delay.new a.new b.new n }
 {
-    for (k, cell) in cells.iter_mut().enumerate() {
-        *cell = cells::cell_at(file, Layout::InFile, k);
+    for k in 0..n {
+        let c = cells::cell_at(file, Layout::InFile, k);
+        kind[k] = c.kind;
+        delay[k] = c.delay;
+        a[k] = c.a;
+        b[k] = c.b;
     }
 }
 
-// Where the cells that a cell names are looked up: their numbers, if it is a netlist's.
-pub(crate) fn inputs(c: Cell) -> (usize, usize)
-    ensures { (result.0 ≡ c.a % 1024) × (result.1 ≡ c.b % 1024) }
-{
-    (usize::from(c.a % 1024), usize::from(c.b % 1024))
-}
-
 impl Circuit<'_> {
-    // Numbers for delays and registers, and the cell of each delay, unless there are more than 256 delays.
-    pub fn number_cells(&self) -> Option<Numbers>
-        ensures { IfSome result (λ m. (m.count ≤ 256) × Ranks (λ k. (cell_at self.now.cells.now k).kind) (λ k. (cell_at self.now.cells.now k).delay) m.rank (length self.now.cells.now) × Delays (λ k. (cell_at self.now.cells.now k).kind) (length self.now.cells.now) m.delays m.count) }
+    // Numbers for delays and registers, and the cell of each delay; answers how many delays there are, unless there are more than 256.
+    pub fn number_cells(&self, rank: &mut [u8], delays: &mut [u16]) -> Option<usize>
+        requires { (self.now.n ≤ length rank.old) × (256 ≤ length delays.old) × (self.now.n ≤ length self.now.kind.now) × (self.now.n ≤ length self.now.delay.now) }
+        ensures { IfSome result (λ count. (count ≤ 256) × Ranks (λ k. get_or self.now.kind.now k 0) (λ k. get_or self.now.delay.now k 0) rank.new self.now.n × Delays (λ k. get_or self.now.kind.now k 0) self.now.n delays.new count) }
     {
-        let mut rank = [0; 1024];
-        let mut delays = [0; 256];
         let mut count: usize = 0;
         let mut memories: usize = 0;
-        for (k, c) in self.cells.iter().enumerate() {
+        for k in 0..self.n {
             // Kinds are the numbers of model/Circuit's shape, by which the laws count cells.
-            match c.kind {
+            let x = self.kind[k];
+            match x {
                 34 => {
                     if count == DELAYS {
                         return None;
@@ -68,14 +67,18 @@ impl Circuit<'_> {
                     rank[k] = (memories % 256) as u8;
                     memories += 1;
                 }
-                42 => rank[k] = 16 + c.delay % 4,
+                42 => rank[k] = 16 + self.delay[k] % 4,
                 _ => {}
             }
         }
-        Some(Numbers {
-            rank,
-            delays,
-            count,
-        })
+        Some(count)
+    }
+
+    // Where the cells that cell k names are looked up: their numbers, if it is a netlist's.
+    pub(crate) fn inputs(&self, k: usize) -> (usize, usize)
+        requires { (k < length self.now.a.now) × (k < length self.now.b.now) }
+        ensures { (result.0 ≡ get_or self.now.a.now k 0 % 1024) × (result.1 ≡ get_or self.now.b.now k 0 % 1024) }
+    {
+        (usize::from(self.a[k] % 1024), usize::from(self.b[k] % 1024))
     }
 }

@@ -1,10 +1,9 @@
 // Which cells an idle instant clears: control cells, gates, and ors of such words.
-ghost use Rattle.std.specs.Prelude.{true, false, ◌≡◌, length, get_or};
+ghost use Rattle.std.specs.Prelude.{true, List, ◌≡◌, ℕ, ◌≤◌, eqb, length, get_or};
 ghost use Rattle.model.specs.Circuit.{shape};
-ghost use Rattle.engine_laws.specs.Tables.{clears_test, Cleared};
-ghost use Rattle.engine_tables.specs.Of.{Of};
+ghost use Rattle.engine_laws.specs.Tables.{Nets, clears_test, Cleared};
 
-use crate::cells::{Circuit, inputs};
+use crate::cells::Circuit;
 
 // Whether a cell of this kind may be marked as `own`, where its inputs are marked so: kinds and flags are those of clears_test.
 #[tactic(auto, unfolding(model::specs::Circuit::shape, model::specs::Circuit::cell_table, engine_laws::specs::Tables::clears_test))]
@@ -26,29 +25,34 @@ fn clears(kind: u8, own: bool, first: bool, second: bool) -> bool
 }
 
 impl Circuit<'_> {
-    // Marks them; `check_cleared` tells whether the marks are right.
-    pub fn find_cleared(&self) -> [bool; 1024]
-        ensures { length result ≡ 1024 }
+    // Marks them by 1; `check_cleared` tells whether the marks are right.
+    pub fn find_cleared(&self, cleared: &mut [u8])
+        requires { (1024 ≤ length cleared.old) × (1024 ≤ length self.now.kind.now) × (1024 ≤ length self.now.a.now) × (1024 ≤ length self.now.b.now) }
+        ensures { length cleared.new ≡ length cleared.old }
     {
-        let mut cleared = [false; 1024];
-        for (k, c) in self.cells.iter().enumerate() {
-            let (i, j) = inputs(*c);
-            cleared[k] = match c.kind {
-                32..=39 | 41 => true,
+        for k in 0..self.n {
+            let (i, j) = self.inputs(k);
+            cleared[k] = match self.kind[k] {
+                32..=39 | 41 => 1,
                 7 => cleared[i] & cleared[j],
-                _ => false,
+                _ => 0,
             };
         }
-        cleared
     }
 
-    // Whether the marks are right, and no cell is a latch.
-    pub fn check_cleared(&self, cleared: &[bool; 1024]) -> bool
-        ensures { result ≡ true → Of self.now.cells.now (Cleared (λ k. get_or cleared.now k false)) }
+    // Whether the marks are right, and no cell is a latch; what is no 1 is no mark.
+    pub fn check_cleared(&self, cleared: &[u8]) -> bool
+        requires { (1024 ≤ length cleared.now) × (1024 ≤ length self.now.kind.now) × (1024 ≤ length self.now.a.now) × (1024 ≤ length self.now.b.now) }
+        ensures { result ≡ true → (delays : List ℕ) → Nets self.now.kind.now delays self.now.a.now self.now.b.now self.now.n (Cleared (λ k. eqb (get_or cleared.now k 0) 1)) }
     {
-        for (k, c) in self.cells.iter().enumerate() {
-            let (i, j) = inputs(*c);
-            let passes = clears(c.kind, cleared[k], cleared[i], cleared[j]);
+        for k in 0..self.n {
+            let (i, j) = self.inputs(k);
+            let passes = clears(
+                self.kind[k],
+                cleared[k] == 1,
+                cleared[i] == 1,
+                cleared[j] == 1,
+            );
             if !passes {
                 return false;
             }

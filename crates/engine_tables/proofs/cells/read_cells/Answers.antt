@@ -1,12 +1,18 @@
--- `read_cells` meets its contract: the cells below k are in the list. Assumes nothing.
-use Rattle.std.proofs.Common.{◌≡◌, ap, ◌+◌, ◌∙◌, arith}
-use Rattle.model.specs.NetlistFile.{in_file, cells_at}
-use Rattle.engine_tables.proofs.Listed.{filled}
+-- `read_cells` meets its contract: the cells below k are in the lists. Assumes nothing.
+use Rattle.std.proofs.Common.{◌≡◌, sym, ◌∙◌, ap, ℕ, arith}
+use native.Mathlib.Nat.{zero-add}
+use Rattle.model.specs.Circuit.{cell_at}
+use Rattle.model.specs.NetlistFile.{in_file, cells_at, cell_from}
+use Rattle.laws.specs.NetlistFile.CellBytes.{cell-of}
+use Rattle.engine_laws.specs.Decoded.{decoded-more}
 use Rattle.engine_tables.proofs.cells.read_cells.Goals as goal
 
-pub returns : goal.returns
-returns c =
+pub loop-k-preserved : goal.loop-k-preserved
+loop-k-preserved c =
+    let args = c.args in
     let loop = c.loop-k in
-    filled c.args.file.now 0 loop.cells
-    (λ j l. let z : 0 + j ≡ j = omega arith in rw z (loop.invariant j (omega (arith, loop.auto.cells, c.loop-k-test.false))))
-    ∙ ap (cells_at in_file c.args.file.now 0) loop.auto.cells
+    let cells = cells_at in_file args.file.now 0 args.n in
+    let here : cell_at cells loop.k ≡ cell_from args.file.now (in_file loop.k) =
+    cell-of in_file args.file.now 0 args.n loop.k c.loop-k-test.true ∙ ap (λ (j : ℕ). cell_from args.file.now (in_file j)) (zero-add loop.k) in
+    decoded-more cells loop.kind loop.delay loop.a loop.b loop.k c.cell_at-c.result (omega arith) (omega arith) (omega arith) (omega arith)
+    (c.cell_at-c.ensures ∙ sym here) loop.invariant

@@ -1,8 +1,7 @@
--- `read_cells` meets its contract: the cells below k are in the list. Assumes nothing.
-use Rattle.std.proofs.Common.{◌≡◌, ℕ, ◌<◌}
-use Rattle.model.specs.Circuit.{cell_at}
-use Rattle.model.specs.NetlistFile.{in_file, cell_from}
+-- `read_cells` meets its contract: the cells below k are in the lists. Assumes nothing.
+use Rattle.model.specs.NetlistFile.{in_file, cells_at}
+use Rattle.engine_laws.specs.Decoded.{Decoded}
 use Rattle.engine_tables.proofs.cells.read_cells.Given as goal
 
 abbrev pub invariant-loop-k : goal.invariant-loop-k
-invariant-loop-k l = (j : ℕ) → j < l.k → cell_at l.cells j ≡ cell_from l.file (in_file j)
+invariant-loop-k l = Decoded (cells_at in_file l.file 0 l.n) l.kind l.delay l.a l.b l.k

@@ -1,7 +1,8 @@
 -- `propagate` meets its contract: after some entries the lists are as these make them. Assumes nothing.
 use Rattle.std.proofs.Common.{◌≡◌, refl, sym, ◌∙◌, ap, List, ℕ, ◌+◌, ◌<◌, length, get_or, take, drop, length-take, arith}
 use Rattle.std.proofs.lemmas.List.{get_or-drop, get_or-take}
-use Rattle.engine_laws.specs.Fanout.{events, scheduled, all_scheduled, scheduled-more}
+use Rattle.engine_laws.specs.Fanout.{scheduled, all_scheduled, scheduled-more}
+use Rattle.engine.specs.Lent.{events_of}
 use Rattle.engine.proofs.fanout.Pending.propagate.Goals as goal
 
 -- an entry of a part
@@ -10,7 +11,7 @@ in_part s start n k l = get_or-take n (drop start s) k 0 (omega (arith, length-t
 
 pub loop-f-init : goal.loop-f-init
 unfolding all_scheduled
-loop-f-init c = (refl, refl)
+loop-f-init c = (refl, ((refl, refl, refl, refl, refl, refl, refl), refl, refl))
 
 pub loop-f-preserved : goal.loop-f-preserved
 loop-f-preserved c =
@@ -21,10 +22,23 @@ loop-f-preserved c =
     let start = get_or a.fanouts.from.now a.c 0 in
     let k = c.loop-f.f-index in
     let i = c.loop-f.invariant in
-    let f = in_part entries start _ k c.loop-f-test.true in (
-      rw i.1 at c.schedule.ensures.events
-          ∙ ap (λ (f : ℕ). scheduled old.wheel.width a.u f (events here.wheel.rows here.wheel.tag here.wheel.occupied here.held)) f
+    let f = in_part entries start _ k c.loop-f-test.true in
+    let e = c.schedule.ensures in (
+      rw i.1.0.6 at e.events
+          ∙ ap (λ (f : ℕ). scheduled old.wheel.width a.u f (events_of here)) f
           ∙ ap (scheduled old.wheel.width a.u (get_or entries (start + k) 0)) i.0
-          ∙ sym (scheduled-more entries old.wheel.width a.u start k (events old.wheel.rows old.wheel.tag old.wheel.occupied old.held)),
-      c.schedule.ensures.width ∙ i.1,
+          ∙ sym (scheduled-more entries old.wheel.width a.u start k (events_of old)),
+      (
+        (
+          e.lists.0.0 ∙ i.1.0.0,
+          e.lists.0.1 ∙ i.1.0.1,
+          e.lists.0.2 ∙ i.1.0.2,
+          e.lists.0.3 ∙ i.1.0.3,
+          e.lists.0.4 ∙ i.1.0.4,
+          e.lists.0.5 ∙ i.1.0.5,
+          e.lists.0.6 ∙ i.1.0.6,
+        ),
+        e.lists.1 ∙ i.1.1,
+        e.lists.2 ∙ i.1.2,
+      ),
     )

@@ -16,27 +16,29 @@ loop-i-preserved c =
     let a = c.args in
     let wheel = c.loop-i.self in
     let i = c.loop-i.i in
+    let known = c.loop-i.invariant in
     let x = 8 * a.k + i in
     let width = a.self.now.width in
     let z : 8 * a.k + (i + 1) ≡ x + 1 = omega arith in
-    let l : x < 256 = omega (arith, c.requires.0, c.loop-i-test.true) in
+    let l : x < 256 = omega (arith, c.requires.2, c.loop-i-test.true) in
     elim c.if-byte-i-eq1.branch [
       | then-byte-i-eq1 w ↦
-          let e = rw c.loop-i.invariant.1 at w.enter.ensures in
+          let e = w.enter.ensures in
+          let rows = rw known.1.6 at e.rows in
           rw w.self-is (
-            λ s at rows tag long tags f L.
-                let M = c.loop-i.invariant.0 s at rows tag long tags f L in
-                rw (z, e.rows, e.tag)
-                (lined-one s at a.d width a.r x rows tag wheel.rows wheel.tag M (omega (arith, a.self.now.few)) (omega (arith, M.rows, long)) (omega (arith, M.tags, tags))
-                l c.requires.2 (omega arith) c.requires.1 (input_of s at a.k i c.loop-i-test.true f ∙ w.if-byte-i-eq1.true)),
-            e.width,
+            λ s at first tag f L.
+                let M = known.0 s at first tag f L in
+                rw (z, rows, e.tag)
+                (lined-one s at a.d width a.r x first tag wheel.rows.now wheel.tag.now M c.requires.5 (omega (arith, known.1.3, c.requires.0.0)) (omega (arith, known.1.4, c.requires.0.2))
+                l c.requires.4 (omega arith) c.requires.3 (input_of s at a.k i c.loop-i-test.true f ∙ w.if-byte-i-eq1.true)),
+            (e.lists.0 ∙ known.1.0, e.lists.1 ∙ known.1.1, e.lists.2 ∙ known.1.2, e.lists.3 ∙ known.1.3, e.lists.4 ∙ known.1.4, e.lists.5 ∙ known.1.5, e.lists.6 ∙ known.1.6),
           )
       | else-byte-i-eq1 w ↦
           rw w.self-is (
-            λ s at rows tag long tags f L.
+            λ s at first tag f L.
                 rw z
-                (lined-zero s at a.d width a.r x rows tag wheel.rows wheel.tag (c.loop-i.invariant.0 s at rows tag long tags f L)
+                (lined-zero s at a.d width a.r x first tag wheel.rows.now wheel.tag.now (known.0 s at first tag f L)
                 (input_of s at a.k i c.loop-i-test.true f ∙ omega (arith, w.if-byte-i-eq1.false)) l),
-            c.loop-i.invariant.1,
+            known.1,
           )
     ]

@@ -9,10 +9,10 @@ returns-then-left-gt0-clause-numbered c =
     let pre = c.requires in
     let e = c.enter.ensures in
     rw (e.rows, e.tag)
-    (numbered-one a.self.now.width a.r a.self.now.rows a.self.now.tag pre.1 (omega arith) (omega arith) (omega arith) pre.0 a.left (omega arith) (omega arith))
+    (numbered-one a.self.now.width a.r a.self.now.rows.now a.self.now.tag.now pre.4 pre.3 pre.0.0 pre.0.2 pre.2 a.left (omega arith) (omega arith))
 
 pub returns-else-left-gt0-clause-numbered : goal.returns-else-left-gt0-clause-numbered
 returns-else-left-gt0-clause-numbered c =
     let a = c.args in
     let z : a.left ≡ 0 = omega arith in
-    rw z (numbered-none a.self.now.width a.r a.self.now.rows a.self.now.tag c.requires.1)
+    rw z (numbered-none a.self.now.width a.r a.self.now.rows.now a.self.now.tag.now c.requires.4)

@@ -1,39 +1,32 @@
 -- `number_cells` meets its contract: the cells below k are numbered. Assumes nothing.
-use Rattle.std.proofs.Common.{List, sym, ◌∙◌, ℕ, ◌<◌, length, length-set, refl, arith}
-use Rattle.model.specs.declared.Cell.{Cell}
-use Rattle.model.specs.Circuit.{cell_at}
+use Rattle.std.proofs.Common.{List, sym, ◌∙◌, ℕ, ◌<◌, length, get_or, arith}
 use Rattle.engine_laws.specs.Decoded.{set_below, below_one, below_other, below-first, Rank, ranks-other, delays-none, delays-more, delays-other}
 use Rattle.engine_tables.proofs.cells.Circuit.number_cells.Goals as goal
 use Rattle.engine_tables.proofs.cells.Circuit.number_cells.Goals.{in-34+else-count-eq-DELAYS, in-40, in-42, in_default}
 
-abbrev kind_at : List Cell → ℕ → ℕ
-kind_at cells k = (cell_at cells k).kind
-
-abbrev delay_at : List Cell → ℕ → ℕ
-delay_at cells k = (cell_at cells k).delay
+abbrev at : List ℕ → ℕ → ℕ
+at s k = get_or s k 0
 
 pub loop-k-init : goal.loop-k-init
-loop-k-init c = (λ k l. absurd (omega arith), delays-none _ _, sym (below-first 40 (kind_at c.args.self.now.cells.now)), omega arith, omega arith, refl, refl)
+loop-k-init c = (λ k l. absurd (omega arith), delays-none _ _, sym (below-first 40 (at c.args.self.now.kind.now)), omega arith, omega arith)
 
 pub loop-k-preserved : goal.loop-k-preserved
 loop-k-preserved c =
     let args = c.args in
-    let K = kind_at args.self.now.cells.now in
-    let D = delay_at args.self.now.cells.now in
+    let K = at args.self.now.kind.now in
+    let D = at args.self.now.delay.now in
     let loop = c.loop-k in
-    let room : loop.k < length loop.rank = omega (arith, c.args.self.now.few, loop.invariant.5) in
-    elim c.match-c.branch [
+    let room : loop.k < length loop.rank = omega arith in
+    elim c.match-x.branch [
       | in-34+else-count-eq-DELAYS w ↦
           let here = w.in-34.is in
           rw (w.rank-is, w.delays-is, w.count-is, w.memories-is) (
             set_below (Rank K D) loop.rank loop.k loop.count room loop.invariant.0
                 (λ e. loop.invariant.1.number, λ e f. absurd (omega (arith, e, here)), λ e f. absurd (omega (arith, e, here))),
-            delays-more K loop.k loop.delays loop.count here (omega (arith, loop.invariant.6)) loop.invariant.1,
+            delays-more K loop.k loop.delays loop.count here (omega arith) loop.invariant.1,
             loop.invariant.2 ∙ sym (below_other 40 K loop.k (λ e. omega (arith, e, here))),
             omega arith,
             omega arith,
-            length-set loop.rank loop.k _ ∙ loop.invariant.5,
-            length-set loop.delays loop.count loop.k ∙ loop.invariant.6,
           )
       | in-40 w ↦
           let here = w.in-40.is in
@@ -44,8 +37,6 @@ loop-k-preserved c =
             omega (arith, loop.invariant.2, below_one 40 K loop.k here),
             omega arith,
             omega arith,
-            length-set loop.rank loop.k _ ∙ loop.invariant.5,
-            loop.invariant.6,
           )
       | in-42 w ↦
           let here = w.in-42.is in
@@ -56,8 +47,6 @@ loop-k-preserved c =
             loop.invariant.2 ∙ sym (below_other 40 K loop.k (λ e. omega (arith, e, here))),
             omega arith,
             omega arith,
-            length-set loop.rank loop.k _ ∙ loop.invariant.5,
-            loop.invariant.6,
           )
       | in_default w ↦
           rw (w.rank-is, w.delays-is, w.count-is, w.memories-is) (
@@ -66,7 +55,5 @@ loop-k-preserved c =
             loop.invariant.2 ∙ sym (below_other 40 K loop.k (λ e. omega (arith, e))),
             omega arith,
             omega arith,
-            loop.invariant.5,
-            loop.invariant.6,
           )
     ]

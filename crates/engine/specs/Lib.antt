@@ -1,2 +1,2 @@
 -- Definitions that the contracts cite beside those of engine_laws.
-pub mod Of
+pub mod Lent

@@ -1,6 +1,0 @@
--- `find_cleared` meets its contract: no entry is added or taken away. Assumes nothing.
-use Rattle.std.proofs.Common.{◌≡◌, length}
-use Rattle.engine_tables.proofs.cells.Circuit.find_cleared.Given as goal
-
-abbrev pub invariant-loop-k : goal.invariant-loop-k
-invariant-loop-k l = length l.cleared ≡ 1024

@@ -2,54 +2,49 @@
 // Widening casts are `as`, with which proofs compute.
 ghost use Rattle.std.specs.Prelude.{◌≡◌, ◌<◌, ◌≤◌};
 ghost use Rattle.engine_laws.specs.Fanout.{Room, scheduled, cell_in, InRow, Fanout, propagated};
-ghost use Rattle.engine.specs.Lent.{SamePending, events_of};
+ghost use Rattle.engine.specs.Lent.{SameLists, events_of};
 
 use crate::sets;
 use crate::wheel::Wheel;
 
-// What scheduling changes: the wheel, behind whose rows are 16 words more for the cells that are to be evaluated in this instant, and what each cell holds.
-#[derive(Drop)]
-pub struct Pending<'a> {
-    pub wheel: Wheel<'a>,
-    pub held: &'a mut [u8],
-}
-
 // The fanouts of all cells: that of cell c begins with entry `from[c]`, and ends where the next one begins.
+// Two lifetimes: whoever was lent the two lists apart could not lend them on at one.
 #[derive(Clone, Copy)]
-pub struct Fanouts<'a> {
+pub struct Fanouts<'a, 'b> {
     pub from: &'a [u16],
-    pub entries: &'a [u32],
+    pub entries: &'b [u32],
 }
 
-impl Pending<'_> {
-    // One entry of a fanout is scheduled.
-    fn schedule(&mut self, u: u32, f: u32)
-        requires { Room self.old.wheel.rows.now self.old.wheel.tag.now self.old.wheel.occupied.now self.old.held.now × (self.old.wheel.width ≤ 4) × (u ≤ 2000000) × (cell_in f < 1024) × InRow 4 f }
-        ensures events { events_of self.new ≡ scheduled self.old.wheel.width u f (events_of self.old) }
-        ensures lists { SamePending self.old self.new }
+impl Wheel<'_> {
+    // One entry of a fanout is scheduled: 16 words more behind the rows are for the cells that are to be evaluated in this instant, `held` is what each
+    // cell holds.
+    fn schedule(&mut self, held: &mut [u8], u: u32, f: u32)
+        requires { Room self.old.rows.now self.old.tag.now self.old.occupied.now held.old × (self.old.width ≤ 4) × (u ≤ 2000000) × (cell_in f < 1024) × InRow 4 f }
+        ensures events { events_of self.new held.new ≡ scheduled self.old.width u f (events_of self.old held.old) }
+        ensures lists { SameLists self.old self.new }
     {
         let j = (f % 65536) as usize;
         let d = f / 65536 % 256;
         if d == 0 {
             let side = (f / 16777216) as u8;
-            self.held[j] |= side;
+            held[j] |= side;
             let at = 131072 + j;
-            sets::put(self.wheel.rows, at);
+            sets::put(self.rows, at);
             return;
         }
-        self.wheel.enter(u + d, j);
+        self.enter(u + d, j);
     }
 
     // Cell c is high at u: its whole fanout is scheduled.
-    pub fn propagate(&mut self, fanouts: Fanouts<'_>, c: usize, u: u32)
-        requires { Room self.old.wheel.rows.now self.old.wheel.tag.now self.old.wheel.occupied.now self.old.held.now × (self.old.wheel.width ≤ 4) × (u ≤ 2000000) × (c < 1024) × Fanout fanouts.from.now fanouts.entries.now c }
-        ensures events { events_of self.new ≡ propagated fanouts.entry.from.now fanouts.entry.entries.now self.old.wheel.width u c (events_of self.old) }
-        ensures lists { SamePending self.old self.new }
+    pub fn propagate(&mut self, held: &mut [u8], fanouts: Fanouts<'_, '_>, c: usize, u: u32)
+        requires { Room self.old.rows.now self.old.tag.now self.old.occupied.now held.old × (self.old.width ≤ 4) × (u ≤ 2000000) × (c < 1024) × Fanout fanouts.from.now fanouts.entries.now c }
+        ensures events { events_of self.new held.new ≡ propagated fanouts.entry.from.now fanouts.entry.entries.now self.old.width u c (events_of self.old held.old) }
+        ensures lists { SameLists self.old self.new }
     {
         let start = fanouts.from[c] as usize;
         let end = fanouts.from[c + 1] as usize;
         for f in &fanouts.entries[start..end] {
-            self.schedule(u, *f);
+            self.schedule(held, u, *f);
         }
     }
 }

@@ -92,16 +92,16 @@ impl Wheel<'_> {
 }
 
 // Whether delay r puts out at w.
-pub fn puts_out(rows: &[u64], tag: &[u32], w: u32, r: usize) -> bool
-    requires { (2048 ≤ length rows.now) × (512 ≤ length tag.now) × (r < 256) }
-    ensures { result ≡ eqb (puts_in rows.now tag.now w r) 1 }
+pub fn puts_out(wheel: &[u64], tag: &[u32], w: u32, r: usize) -> bool
+    requires { (2048 ≤ length wheel.now) × (512 ≤ length tag.now) × (r < 256) }
+    ensures { result ≡ eqb (puts_in wheel.now tag.now w r) 1 }
 {
     let q = (w % 512) as usize;
     if tag[q] != w {
         return false;
     }
     let at = 256 * q + r;
-    sets::has(rows, at)
+    sets::has(wheel, at)
 }
 
 // An instant after t before which no delay puts out, where `occupied` has, modulo 256, every instant after t at which one does.

@@ -6,9 +6,9 @@ use Rattle.engine.proofs.wheel.puts_out.Goals as goal
 pub returns-then-tag-q : goal.returns-then-tag-q
 returns-then-tag-q c =
     let a = c.args in
-    sym (ap (λ (x : ℕ). eqb x 1) (puts_none a.rows.now a.tag.now a.w a.r (λ e. absurd (c.if-tag-q.true e))))
+    sym (ap (λ (x : ℕ). eqb x 1) (puts_none a.wheel.now a.tag.now a.w a.r (λ e. absurd (c.if-tag-q.true e))))
 
 pub returns : goal.returns
 returns c =
     let a = c.args in
-    c.has.ensures ∙ sym (ap (λ (x : ℕ). eqb x 1) (puts-there a.rows.now a.tag.now a.w a.r c.if-tag-q.false))
+    c.has.ensures ∙ sym (ap (λ (x : ℕ). eqb x 1) (puts-there a.wheel.now a.tag.now a.w a.r c.if-tag-q.false))

@@ -3,7 +3,7 @@ use Rattle.std.proofs.Common.{◌≡◌, refl, sym, ◌∙◌, ap, List, ℕ, �
 use Rattle.std.proofs.lemmas.List.{get_or-drop, get_or-take}
 use Rattle.engine_laws.specs.Fanout.{scheduled, all_scheduled, scheduled-more}
 use Rattle.engine.specs.Lent.{events_of}
-use Rattle.engine.proofs.fanout.Pending.propagate.Goals as goal
+use Rattle.engine.proofs.wheel.Wheel.propagate.Goals as goal
 
 -- an entry of a part
 in_part : (s : List ℕ) (start n k : ℕ) → k < length (take n (drop start s)) → get_or (take n (drop start s)) k 0 ≡ get_or s (start + k) 0
@@ -11,7 +11,7 @@ in_part s start n k l = get_or-take n (drop start s) k 0 (omega (arith, length-t
 
 pub loop-f-init : goal.loop-f-init
 unfolding all_scheduled
-loop-f-init c = (refl, ((refl, refl, refl, refl, refl, refl, refl), refl, refl))
+loop-f-init c = (refl, (refl, refl, refl, refl, refl, refl, refl))
 
 pub loop-f-preserved : goal.loop-f-preserved
 loop-f-preserved c =
@@ -24,21 +24,9 @@ loop-f-preserved c =
     let i = c.loop-f.invariant in
     let f = in_part entries start _ k c.loop-f-test.true in
     let e = c.schedule.ensures in (
-      rw i.1.0.6 at e.events
-          ∙ ap (λ (f : ℕ). scheduled old.wheel.width a.u f (events_of here)) f
-          ∙ ap (scheduled old.wheel.width a.u (get_or entries (start + k) 0)) i.0
-          ∙ sym (scheduled-more entries old.wheel.width a.u start k (events_of old)),
-      (
-        (
-          e.lists.0.0 ∙ i.1.0.0,
-          e.lists.0.1 ∙ i.1.0.1,
-          e.lists.0.2 ∙ i.1.0.2,
-          e.lists.0.3 ∙ i.1.0.3,
-          e.lists.0.4 ∙ i.1.0.4,
-          e.lists.0.5 ∙ i.1.0.5,
-          e.lists.0.6 ∙ i.1.0.6,
-        ),
-        e.lists.1 ∙ i.1.1,
-        e.lists.2 ∙ i.1.2,
-      ),
+      rw i.1.6 at e.events
+          ∙ ap (λ (f : ℕ). scheduled old.width a.u f (events_of here c.loop-f.held)) f
+          ∙ ap (scheduled old.width a.u (get_or entries (start + k) 0)) i.0
+          ∙ sym (scheduled-more entries old.width a.u start k (events_of old a.held.now)),
+      (e.lists.0 ∙ i.1.0, e.lists.1 ∙ i.1.1, e.lists.2 ∙ i.1.2, e.lists.3 ∙ i.1.3, e.lists.4 ∙ i.1.4, e.lists.5 ∙ i.1.5, e.lists.6 ∙ i.1.6),
     )

@@ -2,7 +2,7 @@
 use Rattle.model.specs.Refusals.{Accepted, Done}
 use Rattle.std.specs.Prelude.{Result, Ok, Err, IsOk}
 use mathlib.Core.List.{List}
-use mathlib.Core.Path.{◌≡◌, refl, sym, ◌∙◌, ap}
+use mathlib.Core.Path.{◌≡◌, refl, ap}
 use Prim.Native.Nat.{ℕ, ◌≤◌}
 use native.Mathlib.Omega.{arith}
 use lib.ListN.{length}
@@ -14,7 +14,7 @@ use Rattle.model.specs.ProgramChecks.{program_with}
 use Rattle.model.specs.Numbering.{finish}
 use Rattle.model.specs.NetlistFile.{cells_at, in_list}
 use Rattle.model.specs.Calls.{overwrite, short, writing, check_call, compiled_file, compile_checks, compile_call}
-use Rattle.laws.specs.Refusals.Laws.{not-refused, first_one, first-take, first-drop}
+use Rattle.laws.specs.Refusals.Laws.{first_one, first-take, first-drop}
 use Rattle.laws.specs.Numbering.Count.{fits}
 use Rattle.laws.specs.Program.Size.{few-nodes}
 use Rattle.netlist.specs.declared.cells.Layout.TheVariants.{InList}
@@ -25,7 +25,7 @@ use Rattle.program.specs.declared.Scanned.{Scanned}
 use Rattle.model.specs.Program.{time_in}
 use Rattle.program.specs.Shape.{AllShaped, scanned-laid}
 use Rattle.compiler.specs.declared.whole.Netlist.{Netlist}
-use Rattle.compiler.specs.Whole.{Given, Made, Listed}
+use Rattle.compiler.specs.Whole.{Given, Made}
 
 pub scanned : (options : Options) {s : List ℕ} {r : Scanned} → check_call options s ≡ Accepted → AllShaped (time_in options.times) s r → Given options.pulse options.procedures s r.ends 3762
 scanned options {s} {r} e S = record { options = options; pulse = refl; count = refl; accepted = e; laid = scanned-laid options s r e S; size = refl }
@@ -48,15 +48,6 @@ pub compile-refused : (options : Options) (s lent : List ℕ) {r : Refusal} → 
     → Tells (Err r) lent (compile_call options s lent)
 unfolding compile_call writing check_call
 compile-refused options s lent e = rw (first-take 2 (compile_checks options s lent) e) (refl, refl)
-
--- what is listed of an accepted program
-module _ (options : Options) (s cells : List ℕ) (e : check_call options s ≡ Accepted) where
-  pub listed-ok : (r : Result Netlist Refusal) → Listed options s cells r → IsOk r
-  listed-ok (Ok x) l = refl
-  listed-ok (Err q) l = not-refused (sym l ∙ e)
-
-  pub listed-made : {x : Netlist} (r : Result Netlist Refusal) → r ≡ Ok x → Listed options s cells r → Made (program_with options s) cells x
-  listed-made r q l = (rw q at l).1
 
 -- the call of an accepted program, with a buffer that is long enough
 pub compile-accepted : (options : Options) (s lent : List ℕ) → check_call options s ≡ Accepted → length (compiled_file options s) ≤ length lent

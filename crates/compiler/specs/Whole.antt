@@ -1,10 +1,8 @@
 -- What the walk of a root, the walks of all roots and the parts of the whole netlist ask and leave. Assumes nothing: definitions.
 use Rattle.model.specs.Refusals.{Accepted}
-use Rattle.std.specs.Prelude.{◌≡◌, List, [], ◌∷◌, ◌++◌, ℕ, ◌+◌, ◌*◌, ◌≤◌, length, get_or, drop, Result, Ok, Err}
+use Rattle.std.specs.Prelude.{◌≡◌, List, [], ◌∷◌, ◌++◌, ℕ, ◌+◌, ◌*◌, ◌≤◌, length, get_or, drop}
 use Rattle.std.proofs.lemmas.List.Edits.{sets}
 use Rattle.model.specs.declared.Options.{Options}
-use Rattle.model.specs.declared.Refusal.{Refusal}
-use Rattle.model.specs.ProgramChecks.{program_with}
 use Rattle.model.specs.Program.{Code, Program, program_of, roots}
 use Rattle.model.specs.NetlistFile.{cells_at, in_list}
 use Rattle.model.specs.Numbering.{memory_wires, ors, ors_out, or_count, delay_count, walk_count, finish_wire, delays, walk, Source, wires_of, root_delay_count, root_walk, past_root, root_walk_count, root_finishes, root_delays, root_walks}
@@ -162,11 +160,6 @@ pub record Made (S : Program) (after : List ℕ) (r : Netlist) : Type 0 where
   pub count : r.count ≡ length (netlist S)
   pub finish : r.finish ≡ finish S
   pub ors : r.ors ≡ data_at S
-
--- what listing tells of a program: its refusal, or its netlist
-abbrev pub Listed : Options → List ℕ → List ℕ → Result Netlist Refusal → Type 0
-Listed options s after (Ok r) = (check_call options s ≡ Accepted) × Made (program_with options s) after r
-Listed options s after (Err q) = check_call options s ≡ Err q
 
 -- the clock ors and the walk of S have been put in
 pub record Closing (S : Program) (after : List ℕ) (k : Clocks) (w : Finished) : Type 0 where

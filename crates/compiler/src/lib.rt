@@ -7,7 +7,7 @@ ghost use Rattle.std.specs.Prelude.{◌≡◌, ◌≤◌, length};
 ghost use Rattle.model.specs.ProgramChecks.{program_with};
 ghost use Rattle.model.specs.Numbering.{netlist};
 ghost use Rattle.model.specs.Calls.{overwrite, check_call, compiled_file, compile_call};
-ghost use Rattle.compiler.specs.Whole.{Made, Listed};
+ghost use Rattle.compiler.specs.Whole.{Made};
 
 pub mod nodes; // nodes as parts of the tree
 pub mod words; // where words come from
@@ -19,21 +19,6 @@ pub mod whole; // the whole netlist
 use crate::whole::Netlist;
 use model::sizes::COMPILED_MOST;
 use model::{Options, Refusal, Written};
-
-// The cells of a program's netlist, six bytes each, into a list of their most: refusals 27, 19 to 21, 1 to 8, 22, 24 and 25.
-fn list_cells(options: Options, program: &[u8], cells: &mut [u8]) -> Result<Netlist, Refusal>
-    requires { length cells.old ≡ 3762 }
-    ensures { Listed options program.now cells.new result }
-{
-    let told = program::scan(options, program)?;
-    Ok(whole::put_netlist(
-        cells,
-        program,
-        &told.ends,
-        options.procedures,
-        options.pulse,
-    ))
-}
 
 // How many cells the netlist of an accepted program has; its file takes 512 bytes for every 84 of them.
 pub fn count_cells(options: Options, program: &[u8]) -> usize
@@ -50,7 +35,14 @@ pub fn list_accepted(options: Options, program: &[u8], cells: &mut [u8]) -> Netl
     requires { (check_call options program.now ≡ Accepted) × (length cells.old ≡ 3762) }
     ensures { Made (program_with options program.now) cells.new result }
 {
-    list_cells(options, program, cells).unwrap()
+    let told = program::scan(options, program).unwrap();
+    whole::put_netlist(
+        cells,
+        program,
+        &told.ends,
+        options.procedures,
+        options.pulse,
+    )
 }
 
 // Writes the netlist file of an accepted program into a buffer that is long enough; answers its length.
@@ -67,8 +59,15 @@ pub fn compile(options: Options, program: &[u8], netlist: &mut [u8]) -> Result<W
     ensures answer { result ≡ (compile_call options program.now netlist.old).answer }
     ensures lent { netlist.new ≡ (compile_call options program.now netlist.old).lent }
 {
+    let told = program::scan(options, program)?;
     let mut cells = [0u8; COMPILED_MOST];
-    let made = list_cells(options, program, &mut cells)?;
+    let made = whole::put_netlist(
+        &mut cells,
+        program,
+        &told.ends,
+        options.procedures,
+        options.pulse,
+    );
     netlist::write_file(
         netlist,
         &cells,

@@ -1,4 +1,5 @@
 pub mod Pieces
+pub mod Halves
 pub mod Children
 pub mod Misread
 pub mod Loose

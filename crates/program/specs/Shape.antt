@@ -1,17 +1,18 @@
 -- What the two arrays of the check hold, and what a scan of a program tells.
 -- Assumes nothing: definitions, and the law by which the arrays are filled.
-use Rattle.std.specs.Prelude.{◌≡◌, List, ℕ, ◌+◌, ◌≤◌, ◌<◌, length, get_or, set, refl, Result, Ok, Err, IsOk}
+use Rattle.std.specs.Prelude.{◌≡◌, List, ℕ, ◌+◌, ◌≤◌, ◌<◌, length, get_or, set, drop, refl, Result, Ok, Err, IsOk}
 use Rattle.std.proofs.Common.{sym, ◌∙◌, arith, get_or-set_same, get_or-set_other}
 use Rattle.std.proofs.Math.Decide.{ℕ_discrete}
 use Rattle.model.specs.declared.Node.{Node}
 use Rattle.model.specs.declared.Options.{Options}
 use Rattle.model.specs.declared.Refusal.{Refusal}
-use Rattle.model.specs.Refusals.{Checked, Accepted}
+use Rattle.model.specs.Refusals.{Checked, Accepted, first}
 use Rattle.model.specs.Program.{node_at, node_count, arity, expr_at, time, time_in}
+use Rattle.model.specs.ProgramChecks.{program_checks}
 use Rattle.model.specs.Calls.{check_call}
 use Rattle.program.specs.declared.Scanned.{Scanned}
 use Rattle.laws.specs.Refusals.Laws.{not-refused}
-use Rattle.laws.specs.Program.Passed.{accepted}
+use Rattle.laws.specs.Program.Passed.{Readable, accepted}
 use Rattle.program.specs.Ends.{EndAt, Laid, skips, end_more}
 
 -- the entries of node j, with operator times τ
@@ -27,6 +28,10 @@ AllShaped τ s r = (j : ℕ) → j < node_count s → Shaped τ s r.times r.ends
 abbrev pub Tells : (ℕ → ℕ) → List ℕ → Checked → Result Scanned Refusal → Type 0
 Tells τ s checked (Ok r) = (checked ≡ Accepted) × AllShaped τ s r
 Tells τ s checked (Err q) = checked ≡ Err q
+
+-- the check of a program that is read goes on so, after refusal 6, by these options
+abbrev pub GoesOn : Options → List ℕ → Checked → Type 0
+GoesOn o s checked = Readable o.procedures s × (checked ≡ first (drop 3 (program_checks (time_in o.times) o.pulse o.procedures s)))
 
 -- the entries of one node more
 pub shaped-more : (τ : ℕ → ℕ) (s times ends : List ℕ) (i : ℕ) → ((j : ℕ) → i + 1 ≤ j → j < node_count s → Shaped τ s times ends j)

@@ -4,7 +4,7 @@
 // proof computes; each `From` would be one more equation to rewrite by.
 #![tactic(auto)]
 
-ghost use Rattle.std.specs.Prelude.{◌≡◌, drop};
+ghost use Rattle.std.specs.Prelude.{◌≡◌, drop, Err, MatchResult};
 ghost use Rattle.model.specs.Refusals.{refuse, first};
 ghost use Rattle.model.specs.Program.{time_in};
 ghost use Rattle.model.specs.ProgramChecks.{program_checks};
@@ -12,7 +12,7 @@ ghost use Rattle.model.specs.Calls.{check_call};
 ghost use Rattle.model.specs.FunctionalCalls.{check_functional_call};
 ghost use Rattle.laws.specs.Program.Passed.{Readable};
 ghost use Rattle.program.specs.Roots.{Rooted};
-ghost use Rattle.program.specs.Shape.{AllShaped, Tells};
+ghost use Rattle.program.specs.Shape.{AllShaped, Tells, GoesOn};
 
 pub mod tables; // what is given beside a program
 pub mod kinds; // the table of node kinds
@@ -96,8 +96,17 @@ fn measure<'a>(options: &'a Options, program: &'a [u8]) -> Scanned
     told
 }
 
+// The refusals after 6. The two checks of a program go by this and not by a scan, whose arrays would be copied for them.
+fn check_readable(options: &Options, program: &[u8]) -> Checked
+    requires { Readable options.now.procedures program.now }
+    ensures { result ≡ first (drop 3 (program_checks (time_in options.now.times) options.now.pulse options.now.procedures program.now)) }
+{
+    let told = measure(options, program);
+    late_check(options, program, &told)
+}
+
 // The refusals after 6, with the arrays.
-fn scan_readable(options: &Options, program: &[u8]) -> Result<Scanned, Refusal>
+pub fn scan_readable(options: &Options, program: &[u8]) -> Result<Scanned, Refusal>
     requires { Readable options.now.procedures program.now }
     ensures { Tells (time_in options.now.times) program.now (first (drop 3 (program_checks (time_in options.now.times) options.now.pulse options.now.procedures program.now))) result }
 {
@@ -106,12 +115,20 @@ fn scan_readable(options: &Options, program: &[u8]) -> Result<Scanned, Refusal>
     Ok(told)
 }
 
+// The refusals before the arrays: those of what is given, and 1 to 6. `scan` has room for the arrays from its beginning; who calls this and scan_readable has
+// it only where the program is read.
+pub fn first_check(options: Options, program: &[u8]) -> Checked
+    ensures { MatchResult result (λ u. GoesOn options program.now (check_call options program.now)) (λ r. check_call options program.now ≡ Err r) }
+{
+    tables::check_given(options)?;
+    reading::early_check(program, options.procedures)
+}
+
 // All refusals, those of what is given first, with the arrays that the compiler and the reference run go by.
 pub fn scan(options: Options, program: &[u8]) -> Result<Scanned, Refusal>
     ensures { Tells (time_in options.times) program.now (check_call options program.now) result }
 {
-    tables::check_given(options)?;
-    reading::early_check(program, options.procedures)?;
+    first_check(options, program)?;
     scan_readable(&options, program)
 }
 
@@ -119,21 +136,30 @@ pub fn scan(options: Options, program: &[u8]) -> Result<Scanned, Refusal>
 pub fn check(options: Options, program: &[u8]) -> Checked
     ensures { result ≡ check_call options program.now }
 {
-    scan(options, program).map(|_told| ())
+    first_check(options, program)?;
+    check_readable(&options, program)
 }
 
-// As scan, for a functional circuit, which is given a table alone; refusal 28 comes after 6. Each of the two is the order of its checks and no more.
-pub fn scan_functional(options: Options, program: &[u8]) -> Result<Scanned, Refusal>
-    ensures { Tells (time_in options.times) program.now (check_functional_call options program.now) result }
+// As first_check, for a functional circuit, which is given a table alone: what the others go by. Refusal 28 comes after 6. Each of the two is the order of
+// its checks and no more.
+pub fn first_functional(options: Options, program: &[u8]) -> Result<Options, Refusal>
+    ensures { MatchResult result (λ o. GoesOn o program.now (check_functional_call options program.now) × (o.times ≡ options.times)) (λ r. check_functional_call options program.now ≡ Err r) }
 {
     options.checked?;
     reading::early_check(program, 0)?;
     reading::first_added(program)?;
-    let alone = Options {
+    Ok(Options {
         procedures: 0,
         pulse: 1,
         ..options
-    };
+    })
+}
+
+// As scan, for a functional circuit.
+pub fn scan_functional(options: Options, program: &[u8]) -> Result<Scanned, Refusal>
+    ensures { Tells (time_in options.times) program.now (check_functional_call options program.now) result }
+{
+    let alone = first_functional(options, program)?;
     scan_readable(&alone, program)
 }
 
@@ -141,5 +167,6 @@ pub fn scan_functional(options: Options, program: &[u8]) -> Result<Scanned, Refu
 pub fn check_functional(options: Options, program: &[u8]) -> Checked
     ensures { result ≡ check_functional_call options program.now }
 {
-    scan_functional(options, program).map(|_told| ())
+    let alone = first_functional(options, program)?;
+    check_readable(&alone, program)
 }

@@ -1,14 +1,11 @@
 -- The answer of a run, that of the main program's run, and that of a call by what the checks say.
 -- Assumes nothing.
 use Rattle.std.specs.Prelude.{Result, Ok, Err, IfOk, MatchResult}
-use mathlib.Core.Path.{◌≡◌, refl, sym, ◌∙◌, ap, ap₂}
-use mathlib.Core.Bool.{Bool, true, false}
+use mathlib.Core.Path.{◌≡◌, refl, sym, ◌∙◌, ap}
 use mathlib.Core.List.{List, [], ◌∷◌}
-use Prim.Native.Nat.{ℕ, ◌+◌, ◌≤◌, ◌<◌}
+use Prim.Native.Nat.{ℕ, ◌+◌}
 use native.Mathlib.Omega.{arith}
-use lib.Dec.{ltb}
 use lib.ListN.{length, get_or, replicate}
-use borrow.Author.Tests.{lt-ltb, le-ltb}
 use Rattle.model.specs.declared.Refusal.{Refusal}
 use Rattle.model.specs.declared.Options.{Options}
 use Rattle.model.specs.declared.Answer.{Answer}
@@ -18,7 +15,7 @@ use Rattle.model.specs.Procedures.{meaning}
 use Rattle.model.specs.TimeTables.{given_check}
 use Rattle.model.specs.ProgramChecks.{program_with, check_of, check_functional}
 use Rattle.model.specs.Rules.{Costs, ended, imperative, functional, run}
-use Rattle.model.specs.Refusals.{refuse_if, first, Checked, Accepted}
+use Rattle.model.specs.Refusals.{first, Checked, Accepted}
 use Rattle.model.specs.Calls.{word_at, listed, refused_answer, reference_answer, answering, short, check_call, over_budget, reference_call}
 use Rattle.model.specs.FunctionalCalls.{check_functional_call, reference_functional_call}
 use Rattle.laws.specs.Refusals.Laws.{all-accept, first_two}

@@ -85,23 +85,34 @@ fn run_scanned(
     }
 }
 
-// The check, and then the run: an assignment takes as many instants beside its delay as a pulse has.
+// The check, and then the run: an assignment takes as many instants beside its delay as a pulse has. Here and below the check goes in its two parts, so that
+// what is refused early has no arrays cleared for it.
 pub fn reference_run(options: Options, program: &[u8], words: &[u8], budget: u32) -> Answer
     ensures { result ≡ reference_call options program.now words.now budget }
 {
-    let costs = Costs {
-        write: options.pulse,
-        latch: 0,
-    };
-    let scanned = program::scan(options, program);
-    run_scanned(scanned, program, costs, options.procedures, words, budget)
+    match program::first_check(options, program) {
+        Err(r) => Answer::refused(r),
+        Ok(()) => {
+            let costs = Costs {
+                write: options.pulse,
+                latch: 0,
+            };
+            let scanned = program::scan_readable(&options, program);
+            run_scanned(scanned, program, costs, options.procedures, words, budget)
+        }
+    }
 }
 
 // The same for a functional circuit, which is given a table alone: an assignment takes its delay, and a loop's words are latched in one instant.
 pub fn reference_functional(options: Options, program: &[u8], words: &[u8], budget: u32) -> Answer
     ensures { result ≡ reference_functional_call options program.now words.now budget }
 {
-    let costs = Costs { write: 0, latch: 1 };
-    let scanned = program::scan_functional(options, program);
-    run_scanned(scanned, program, costs, 0, words, budget)
+    match program::first_functional(options, program) {
+        Err(r) => Answer::refused(r),
+        Ok(alone) => {
+            let costs = Costs { write: 0, latch: 1 };
+            let scanned = program::scan_readable(&alone, program);
+            run_scanned(scanned, program, costs, 0, words, budget)
+        }
+    }
 }

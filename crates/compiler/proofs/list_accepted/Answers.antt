@@ -1,9 +1,13 @@
 -- `list_accepted` meets its contract. Assumes nothing.
-use Rattle.compiler.proofs.Call.{listed-ok, listed-made}
+use Rattle.program.specs.Shape.{told-ok, told-shaped}
+use Rattle.compiler.proofs.Call.{scanned}
 use Rattle.compiler.proofs.list_accepted.Goals as goal
 
-pub unwrap-requires : goal.unwrap-requires
-unwrap-requires c = listed-ok c.args.options _ _ c.requires.0 _ c.list_cells.ensures
+pub unwrap-told-requires : goal.unwrap-told-requires
+unwrap-told-requires c = told-ok _ _ _ _ c.scan.ensures c.requires.0
+
+pub put_netlist-requires : goal.put_netlist-requires
+put_netlist-requires c = rw c.requires.1 (scanned c.args.options c.requires.0 (told-shaped _ _ _ _ c.unwrap-told.ensures c.scan.ensures))
 
 pub returns : goal.returns
-returns c = listed-made c.args.options _ _ c.requires.0 _ c.unwrap.ensures c.list_cells.ensures
+returns c = c.put_netlist.ensures

@@ -32,7 +32,7 @@ pub struct Tree<'a> {
 impl Tree<'_> {
     // The node after the subtree of node i; i itself where there is no node i, as definition `past` of specs/Ends has it for subtrees that follow.
     pub fn next(&self, i: usize) -> usize
-        requires { length self.now.program.now ≤ 800 }
+        requires { length self.now.program.now < 804 }
         ensures { result ≡ past self.now.ends.now (node_count self.now.program.now) i }
     {
         if i < self.program.len() / NODE {
@@ -52,7 +52,7 @@ impl Tree<'_> {
 
     // The node after so many subtrees that begin at node `from`.
     pub fn skip(&self, from: usize, trees: usize) -> usize
-        requires { length self.now.program.now ≤ 800 }
+        requires { length self.now.program.now < 804 }
         ensures { result ≡ skips self.now.ends.now (node_count self.now.program.now) trees from }
     {
         let mut at = from;

@@ -6,7 +6,7 @@ use mathlib.Core.List.{List, [], ◌∷◌, ◌++◌, append-nil}
 use Prim.Native.Nat.{ℕ, ◌+◌, ◌<◌, ◌≤◌}
 use native.Mathlib.Omega.{arith}
 use native.Mathlib.Nat.{add-zero}
-use lib.ListN.{length, get_or}
+use lib.ListN.{length, get_or, take, drop}
 use lib.Seq.{sets}
 use Rattle.model.specs.declared.Cell.{Cell}
 use Rattle.model.specs.declared.Options.{Options}
@@ -17,7 +17,7 @@ use Rattle.model.specs.TimeTables.{given_check}
 use Rattle.model.specs.Numbering.{Wires, memory_wires, delay_count, exit_count, walk_count, finish_wire, delays, walk, or_count, wires_of, root_delay_count, root_walk_count, netlist, finish}
 use Rattle.model.specs.NetlistFile.{file_check, cells_of, finish_of, pulse_of}
 use Rattle.model.specs.Calls.{check_call, compiled_file}
-use Rattle.model.specs.PartCalls.{Part, part_at, whole_program, beside_part, beside_whole, part_checks}
+use Rattle.model.specs.PartCalls.{Part, part_at, parts_in, whole_program, beside_part, beside_whole, part_checks}
 use Rattle.model.specs.PartPromises.{part_statement, whole_statement, joined_program, EachPart}
 use Rattle.laws.specs.Refusals.Laws.{accept-all}
 use Rattle.laws.specs.Program.Fit.{Formed, Earlier, exits}
@@ -49,6 +49,11 @@ pub record Known (v : ℕ) (p : Part) : Type 0 where
   pub pulse : pulse_of p.file ≡ v
   pub compiled : Compiled v (stmt_at p.program 0) p.file
   pub enclosed : exit_count (stmt_at p.program 0) ≡ 0
+
+-- which is nothing of its pulse length
+known_with : {v : ℕ} {program file : List ℕ} {w u : ℕ} → Known v (record { program = program; file = file; pulse = w })
+    → Known v (record { program = program; file = file; pulse = u })
+known_with h = record { readable = h.readable; checked = h.checked; pulse = h.pulse; compiled = h.compiled; enclosed = h.enclosed }
 
 -- of an accepted program without procedures
 module _ (options : Options) (s : List ℕ) (none : options.procedures ≡ 0) (e : check_call options s ≡ Accepted) where
@@ -311,3 +316,38 @@ module _ (before : List ℕ) {options : Options} {ps : List Part} {M : ℕ} (R :
     going_end none =
         let G = subst (λ (l : List Part). Going v M ps before marked l cells marks p) none G₀ in
         roots-of (whole-earlier options ps e) (λ F. done-alike (alike-whole options ps e) (G.goes F cells marks p ok-done))
+
+-- Pulse lengths aside -----------------------------------------------------------------------------------------------------------------------------
+
+-- what is known of parts, and their statements, are the same whatever pulse lengths they are lent with
+known-any : (v : ℕ) (lengths pulses others s : List ℕ) → EachPart (Known v) (parts_in lengths pulses s) → EachPart (Known v) (parts_in lengths others s)
+unfolding parts_in
+known-any v [] pulses others s h = h
+known-any v (n ∷ []) pulses others s h = (known_with h.0, tt)
+known-any v (n ∷ (m ∷ lengths)) pulses others s h = (known_with h.0, known-any v lengths (drop 1 pulses) (drop 1 others) (drop (n + m) s) h.1)
+
+chained-any : (lengths pulses others s : List ℕ) → chained (parts_in lengths pulses s) ≡ chained (parts_in lengths others s)
+unfolding parts_in chained
+chained-any [] pulses others s = refl
+chained-any (n ∷ []) pulses others s = refl
+chained-any (n ∷ (m ∷ lengths)) pulses others s =
+    ap (seq (stmt_at (take n s) 0)) (chained-any lengths (drop 1 pulses) (drop 1 others) (drop (n + m) s))
+
+-- so that the walk of parts with the first goes along those with the others
+module _ (lengths pulses s others before : List ℕ) {options : Options} {M : ℕ} (R : PartsReady options (parts_in lengths pulses s) M (length before)) where
+  abbrev ps : List Part
+  ps = parts_in lengths pulses s
+
+  pub going-lent : (marked : List ℕ)
+      → Going (part_at ps 0).pulse M ps before marked (parts_in lengths others s) before marked (place 0 3 (behind_arrays M) 0 0)
+  going-lent marked =
+      let G = going-first before R marked in
+      let e = chained-any lengths pulses others s in
+      let at = place 0 3 (behind_arrays M) 0 0 in
+      record {
+        known = known-any (part_at ps 0).pulse lengths pulses others s G.known;
+        same = G.same;
+        ready = subst (λ (P : Code). Ready M P at (length before)) e G.ready;
+        goes = λ F after remarked r D.
+            G.goes F after remarked r (subst (λ (P : Code). Done (part_at ps 0).pulse M F P at before after marked remarked r) (sym e) D);
+      }

@@ -13,6 +13,10 @@ with_pulse options w = record { checked = options.checked; times = options.times
 abbrev pub part_of : LentPart → Part
 part_of p = record { program = p.program.now; file = p.file.now; pulse = p.pulse }
 
--- the parts that are left
+-- the parts of these lengths and bytes that are left, with any pulse lengths
+abbrev pub parts_with : Parts → List ℕ → List Part
+parts_with ps pulses = parts_in ps.lengths.now pulses ps.bytes.now
+
+-- and with those that are lent
 abbrev pub parts_left : Parts → List Part
-parts_left ps = parts_in ps.lengths.now ps.pulses.now ps.bytes.now
+parts_left ps = parts_with ps ps.pulses.now

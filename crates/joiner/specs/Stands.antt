@@ -19,6 +19,8 @@ use Rattle.compiler.specs.Writes.{both}
 use Rattle.joiner.specs.declared.moving.Stand.{Stand}
 use Rattle.joiner.specs.declared.moving.Own.{Own}
 use Rattle.joiner.specs.declared.moving.Spot.{Spot}
+use Rattle.joiner.specs.declared.parts.Parts.{Parts}
+use Rattle.joiner.specs.Lent.{parts_with}
 use Rattle.joiner.specs.Moving.{new_number}
 
 -- the new number of wire j
@@ -89,11 +91,13 @@ pub record PartsReady (options : Options) (ps : List Part) (M n : ℕ) : Type 0 
   pub given : Given options ps n
   pub ready : Ready M (whole_statement ps) (place 0 3 (behind_arrays M) 0 0) n
 
--- with some options
-pub record SomeGiven (ps : List Part) (n : ℕ) : Type 0 where
+-- with some options and pulse lengths: those that are lent may be others, or none
+pub record SomeGiven (ps : Parts) (n : ℕ) : Type 0 where
   pub options : Options
-  pub given : Given options ps n
+  pub pulses : List ℕ
+  pub given : Given options (parts_with ps pulses) n
 
-pub record SomeReady (ps : List Part) (M n : ℕ) : Type 0 where
+pub record SomeReady (ps : Parts) (M n : ℕ) : Type 0 where
   pub options : Options
-  pub parts-ready : PartsReady options ps M n
+  pub pulses : List ℕ
+  pub parts-ready : PartsReady options (parts_with ps pulses) M n

@@ -1,12 +1,12 @@
 // The parts, put in one after another as the compiler's walk would put their sequence in: each part's cells moved, and its marks.
-ghost use Rattle.std.specs.Prelude.{ℕ, length, []};
+ghost use Rattle.std.specs.Prelude.{ℕ, length, List, []};
 ghost use Rattle.model.specs.declared.Options.{Options};
 ghost use Rattle.model.specs.Program.{stmt_at};
 ghost use Rattle.model.specs.NetlistFile.{pulse_of};
 ghost use Rattle.model.specs.PartPromises.{joined_program};
 ghost use Rattle.compiler.specs.Walk.{Done};
 ghost use Rattle.compiler.specs.Whole.{RootsDone, Made};
-ghost use Rattle.joiner.specs.Lent.{parts_left};
+ghost use Rattle.joiner.specs.Lent.{parts_with};
 ghost use Rattle.joiner.specs.Stands.{Placeable, Given, PartsReady, SomeGiven, SomeReady};
 
 use crate::moving::Spot;
@@ -53,10 +53,10 @@ fn place_part(
     }
 }
 
-// The parts one after another: each starts with the finish of the one before.
+// The parts one after another: each starts with the finish of the one before. The pulse lengths that are lent tell nothing of a part's cells or marks.
 fn put_parts(cells: &mut [u8], marks: &mut [u16; 800], parts: Parts, memory: u16) -> Place
-    requires { SomeReady (parts_left parts) memory (length cells.old) }
-    ensures { (options : Options) → PartsReady options (parts_left parts.entry) memory (length cells.old) → RootsDone (joined_program (parts_left parts.entry)) [] memory cells.old cells.new marks.old marks.new result }
+    requires { SomeReady parts memory (length cells.old) }
+    ensures { (options : Options) (pulses : List ℕ) → PartsReady options (parts_with parts.entry pulses) memory (length cells.old) → RootsDone (joined_program (parts_with parts.entry pulses)) [] memory cells.old cells.new marks.old marks.new result }
 {
     let mut at = Place {
         wire: 0,
@@ -71,11 +71,12 @@ fn put_parts(cells: &mut [u8], marks: &mut [u16; 800], parts: Parts, memory: u16
     at
 }
 
-// The netlist of the whole. As in compiling, the walk is put in twice: the first time it tells where the memories begin. What follows a walk is the
-// compiler's own; the walks themselves differ, here with no callers, and a function that is lent one would be longer than the two calls.
+// The netlist of the whole, for any options and pulse lengths with which the parts are accepted: those that are lent may be others, or none. As in
+// compiling, the walk is put in twice: the first time it tells where the memories begin. What follows a walk is the compiler's own; the walks themselves
+// differ, here with no callers, and a function that is lent one would be longer than the two calls.
 pub fn put_netlist(cells: &mut [u8], parts: Parts) -> Netlist
-    requires { SomeGiven (parts_left parts) (length cells.old) }
-    ensures { (options : Options) → Given options (parts_left parts.entry) (length cells.old) → Made (joined_program (parts_left parts.entry)) cells.new result }
+    requires { SomeGiven parts (length cells.old) }
+    ensures { (options : Options) (pulses : List ℕ) → Given options (parts_with parts.entry pulses) (length cells.old) → Made (joined_program (parts_with parts.entry pulses)) cells.new result }
 {
     let mut marks = [0u16; 800];
     let first = put_parts(cells, &mut marks, parts, 179);

@@ -16,7 +16,7 @@ pub put_netlist-made-requires : goal.put_netlist-made-requires
 put_netlist-made-requires c =
     let args = c.args in
     let e = sym c.check_parts.ensures ∙ c.in_ok-check_parts.was in
-    record { options = _; given = given args.options args.lengths.now args.pulses.now args.parts.now e }
+    record { options = _; pulses = _; given = given args.options args.lengths.now args.pulses.now args.parts.now e }
 
 pub write_file-requires : goal.write_file-requires
 write_file-requires c =
@@ -26,7 +26,7 @@ write_file-requires c =
     let pulses = args.pulses.now in
     let parts = args.parts.now in
     let e = sym c.check_parts.ensures ∙ c.in_ok-check_parts.was in
-    let made = put-netlist.ensures _ (given args.options lengths pulses parts e) in
+    let made = put-netlist.ensures _ pulses (given args.options lengths pulses parts e) in
     rw c.from.ensures (room args.options lengths pulses parts e made put-netlist.auto.cells, pulse-low args.options lengths pulses parts e (c.from-2.ensures ∙ c.pulse.ensures))
 
 pub returns : goal.returns
@@ -37,5 +37,5 @@ returns c =
     let pulses = args.pulses.now in
     let parts = args.parts.now in
     let e = sym c.check_parts.ensures ∙ c.in_ok-check_parts.was in
-    let made = put-netlist.ensures _ (given args.options lengths pulses parts e) in
+    let made = put-netlist.ensures _ pulses (given args.options lengths pulses parts e) in
     rw (join-writes args.options lengths pulses parts e made args.netlist.now (c.from-2.ensures ∙ c.pulse.ensures)) (rw c.from.ensures at c.write_file.ensures)

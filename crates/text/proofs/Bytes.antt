@@ -1,9 +1,10 @@
 -- Nodes in bytes: a node more, and a delay. Assumes nothing.
-use Rattle.std.proofs.Common.{◌≡◌, ℕ, zero, suc, ◌+◌, ◌-◌, ◌*◌, ◌<◌, ◌≤◌, min, List, [], ◌∷◌, ◌++◌, length, get_or, take, drop, set, sym, refl, ap, ◌∙◌, append_assoc, arith, length-append, length-drop, length-set, length-take, length-take-le, take-take, take_at, drop_at}
+use Rattle.std.proofs.Common.{◌≡◌, ℕ, zero, suc, ◌+◌, ◌-◌, ◌*◌, ◌<◌, ◌≤◌, min, List, [], ◌∷◌, ◌++◌, length, get_or, take, drop, set, sym, refl, ap, ◌∙◌, append_assoc, arith, length-append, length-drop, length-set, drop_of_length-le, length-take, length-take-le, drop-cons, get_or-take, take-suc, take-take, take_at, drop_at}
 use Rattle.std.specs.List.{copy_within}
 use Rattle.std.proofs.lemmas.List.{drop-take}
 use native.Mathlib.Numerals.{towards_suc}
-use lib.Seq.{sets, sets-eq, take-append-le, take-set-lt, set_out}
+use lib.ListN.{get_or-append}
+use lib.Seq.{sets, sets-eq, set_at, take-append-le, take-set-lt, set_out}
 use Rattle.model.specs.declared.Node.{Node}
 use Rattle.model.specs.Word.{bytes16, put16}
 use Rattle.model.specs.Program.{node, node_bytes}
@@ -24,6 +25,42 @@ moved d a e h =
     rw (g, t, append_assoc) refl
 
 module _ (d : List ℕ) (e : ℕ) (fits : e + 4 ≤ length d) where
+  -- none has moved yet, and one more
+  pub shift_none : copy_within d e e (e + 4) ≡ d
+  shift_none =
+      let n : drop e (take e d) ≡ [] = drop_of_length-le (take e d) {i = e} (rw (length-take-le e d (omega arith)) (omega arith)) in
+      moved d e e (omega arith) ∙ rw n (lib.ListN.take-append-drop (e + 4) d)
+
+  module _ (j : ℕ) (more : j < e) where
+    long : length (take (suc j + 4) d) ≡ suc j + 4
+    long = length-take-le (suc j + 4) d (omega arith)
+
+    still : get_or (shifted (suc j) e d) j 0 ≡ get_or d j 0
+    still =
+        get_or-append (take (suc j + 4) d) _ 0 j (rw long (omega arith)) ∙ get_or-take (suc j + 4) d j 0 (omega arith)
+
+    front : take (suc j + 4) d ≡ take (j + 4) d ++ (get_or d (j + 4) 0 ∷ [])
+    front = let s : suc j + 4 ≡ suc (j + 4) = omega arith in rw s (take-suc d (j + 4) 0 (omega arith))
+
+    next : drop j (take e d) ≡ get_or d j 0 ∷ drop (suc j) (take e d)
+    next =
+        rw (← get_or-take e d j 0 more)
+        (drop-cons (take e d) j 0 (rw (length-take-le e d (omega arith)) more))
+
+    shift_suc : set (shifted (suc j) e d) (j + 4) (get_or (shifted (suc j) e d) j 0) ≡ shifted j e d
+    shift_suc =
+        let rest = drop (suc j) (take e d) ++ drop (e + 4) d in
+        let l : length (take (j + 4) d) ≡ j + 4 = length-take-le (j + 4) d (omega arith) in
+        let f : take (suc j + 4) d ++ rest ≡ take (j + 4) d ++ (get_or d (j + 4) 0 ∷ rest) = rw (front, append_assoc) refl in
+        rw (still, f, set_at (take (j + 4) d) (get_or d (j + 4) 0) rest (get_or d j 0) (j + 4) l, next) refl
+
+  pub shift-more : (i : ℕ) → 0 < i → i ≤ e
+      → set (copy_within d i e (i + 4)) (i - 1 + 4) (get_or (copy_within d i e (i + 4)) (i - 1) 0) ≡ copy_within d (i - 1) e (i - 1 + 4)
+  shift-more zero n h = absurd (omega arith)
+  shift-more (suc j) n h =
+      let s : suc j - 1 ≡ j = omega arith in
+      rw (s, moved d (suc j) e h, moved d j e (omega arith)) (shift_suc j (omega arith))
+
   -- four bytes put in at a
   module _ (a : ℕ) (below : a ≤ e) (vs : List ℕ) (four : length vs ≡ 4) where
     pub shift-put : take (e + 4) (sets (shifted a e d) a vs) ≡ take a d ++ (vs ++ drop a (take e d))

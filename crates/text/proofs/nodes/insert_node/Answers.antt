@@ -12,5 +12,5 @@ pub returns : goal.returns
 returns c =
     let args = c.args in
     λ ns e k.
-    insert-here args.nodes.now args.at args.node ns c.requires (omega arith) (rw e at c.min.ensures) (rw e at c.copy_within.ensures.after)
+    insert-here args.nodes.now args.at args.node ns c.requires (omega arith) (rw e at c.min.ensures) (rw e at c.shift.ensures)
     c.put16.ensures k

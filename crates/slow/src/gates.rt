@@ -83,8 +83,10 @@ pub fn next_word(net: &Net<'_>, first: u16, c: Cell, work: &[u8], k: usize, t: u
         return word::bit(v == 1);
     }
     if kind == 40 {
-        let from = if has_fallen(work, a, t) { b } else { k };
-        return kept_word(first, from, work, t);
+        if has_fallen(work, a, t) {
+            return kept_word(first, b, work, t);
+        }
+        return kept_word(first, k, work, t);
     }
     if kind == 45 {
         let from = if ring::past(work, a, t, 1) == 1 { b } else { k };
@@ -93,9 +95,6 @@ pub fn next_word(net: &Net<'_>, first: u16, c: Cell, work: &[u8], k: usize, t: u
     let d = time_at(net.times, net.ors, k, kind);
     if kind == 44 {
         return ring::past(work, net.n + 1 + k, t, d);
-    }
-    if netlist::kinds::is_merge(kind) {
-        return word::bit(merged(net, c, work, k, t).out);
     }
     let x = ring::word_at(work, a, t);
     let y = ring::word_at(work, b, t);
@@ -109,6 +108,8 @@ pub fn next_word(net: &Net<'_>, first: u16, c: Cell, work: &[u8], k: usize, t: u
         35 => word::bit((x == 1) | (y == 1)),
         36 => word::bit((x == 1) & (y != 0)),
         37 => word::bit((x == 1) & (y == 0)),
+        38 => word::bit(merged(net, c, work, k, t).out),
+        39 => word::bit(merged(net, c, work, k, t).out),
         41 => if x == 1 { y } else { 0 },
         _ => 0,
     }

@@ -45,14 +45,16 @@ fn evaluate(net: &Net<'_>, memory: usize, work: &mut [u8], k: usize, t: u32) -> 
     memory + usize::from(c.kind == 40)
 }
 
-// All cells at instant t. The number k is that of a ring, too, and in no list of cells alone.
+// All cells at instant t. The number k is that of a ring, too, and in no list of cells alone. The net is copied, so that the compiler knows that writes in
+// work leave it as it is, and reads its fields once.
 fn instant(net: &Net<'_>, work: &mut [u8], t: u32)
     requires { WorksFor net.now work.old × KeptBy net.now t 0 work.old }
     ensures { KeptBy net.now t net.now.n work.new }
 {
+    let net = *net;
     let mut memory: usize = 0;
     for k in 0..net.n {
-        memory = evaluate(net, memory, work, k, t);
+        memory = evaluate(&net, memory, work, k, t);
     }
 }
 
@@ -62,7 +64,10 @@ fn put_elements(net: &Net<'_>, work: &mut [u8])
     ensures { (e : ℕ) → e < 256 → word_in work.new net.now.n e ≡ word_at net.now.words.now (16 + e) }
 {
     let at = ring::slot(net.n, 0);
-    work[at..at + ELEMENTS].copy_from_slice(&net.words[VARIABLES..START_WORDS]);
+    word::copy(
+        &mut work[at..at + ELEMENTS],
+        &net.words[VARIABLES..START_WORDS],
+    );
 }
 
 // Instants until the finish is high or the budget is used; answers the last one.

@@ -6,4 +6,4 @@ use Rattle.slow.proofs.instants.put_elements.Goals as goal
 pub returns : goal.returns
 returns c =
     let args = c.args in
-    λ e l. copied args.work.now args.net.now.words.now _ _ c.slot-at.result (omega (arith, c.slot-at.ensures, c.requires.1)) c.requires.0 c.copy_from_slice.ensures.after args.net.now.n e (omega (arith, c.slot-at.ensures)) l
+    λ e l. copied args.work.now args.net.now.words.now _ _ c.slot-at.result (omega (arith, c.slot-at.ensures, c.requires.1)) c.requires.0 c.copy.ensures args.net.now.n e (omega (arith, c.slot-at.ensures)) l

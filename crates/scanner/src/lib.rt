@@ -47,10 +47,13 @@ fn behind(text: &[u8], i: usize) -> &[u8]
     text.get(i..).unwrap_or(&[])
 }
 
-// The place after the blanks from i on.
+// The place after the blanks from i on. The first test spares the chain where there is none, as before a sign of a dense text.
 fn skip_blanks(text: &[u8], i: usize) -> usize
     ensures { result ≡ after_blanks i text.now }
 {
+    if i < text.len() && !is_blank(text[i]) {
+        return i;
+    }
     i + behind(text, i).iter().take_while(|c| is_blank(**c)).count()
 }
 
@@ -149,6 +152,8 @@ fn limit_after(previous: u8) -> u16
     }
 }
 
+// Not inlined: the step over a sign would keep the registers for it.
+#[inline(never)]
 fn run_token(w: &[u8], previous: u8) -> Token
     ensures { result ≡ run_token previous w.now }
 {

@@ -1,5 +1,5 @@
 -- `scanned` meets its contract: a cell more is looked at, beside the cells that its inputs name. Assumes nothing.
-use Rattle.std.proofs.Common.{◌+◌, ◌<◌, ◌≤◌, length, length-take, get_or-take, sym, arith}
+use Rattle.std.proofs.Common.{◌+◌, ◌<◌, ◌≤◌, length, length-take, get_or-take, sym, rules, arith}
 use Rattle.model.specs.Circuit.{no_cell}
 use Rattle.model.specs.NetlistFile.{cell_limit}
 use Rattle.netlist.specs.Scans.{Scanned}
@@ -16,3 +16,6 @@ loop-k-preserved c =
     let second = named-there xs k _ _ c.input-j.ensures in
     let more : Scanned xs c.args.finish (k + 1) c.step-scan.result = c.step-scan.ensures xs c.args.finish (record { here = sym (get_or-take c.looked.result xs k no_cell before); first = first; second = second }) (c.loop-k.invariant.found few) in
     record { count = more.count; end = more.end; found = λ _. more }
+
+pub returns : goal.returns
+returns c = search rules

@@ -36,6 +36,8 @@ fn element_now(source: &Source<'_>, a: usize, w: u16, state: &[u8]) -> u16
 // What cell k, which is c, shows after instant 0; `starts`, here and in what goes over instants, is the model's: whether a start pulse is given. A kind is
 // the byte that a netlist file has, so the match is on numbers; they widen by `as`, with which proofs compute, where `From` is an equation at each use.
 // Crate slow's next_word has like arms of its rings: the two share five lines, whose x and y are read otherwise.
+// Inlined, so that a program that runs full states alone looks at no format for each cell.
+#[inline(always)]
 pub fn next_value(source: &Source<'_>, starts: bool, c: Cell, state: &[u8], k: usize) -> u16
     requires { Holds source.now.format source.now.file.now source.now.h state.now k c }
     ensures { result ≡ next_value source.now.format (shape c.kind) starts (net_of source.now.file.now) state.now k c }

@@ -96,13 +96,14 @@ fn measure<'a>(options: &'a Options, program: &'a [u8]) -> Scanned
     told
 }
 
-// The refusals after 6. The two checks of a program go by this and not by a scan, whose arrays would be copied for them.
+// The refusals after 6. The two checks of a program go by this and not by a scan, whose arrays would be copied for them. It is a call of its own, so that the
+// calls of a check are short where a program is refused before.
+#[inline(never)]
 fn check_readable(options: &Options, program: &[u8]) -> Checked
     requires { Readable options.now.procedures program.now }
     ensures { result ≡ first (drop 3 (program_checks (time_in options.now.times) options.now.pulse options.now.procedures program.now)) }
 {
-    let told = measure(options, program);
-    late_check(options, program, &told)
+    late_check(options, program, &measure(options, program))
 }
 
 // The refusals after 6, with the arrays.

@@ -1,6 +1,7 @@
 -- `hub_write_cells` meets its contract: what is put in, by what writing answers. Assumes nothing.
-use Rattle.std.proofs.Common.{refl, sym, ◌∙◌}
-use Rattle.reply.proofs.Rooms.{left}
+use Rattle.std.proofs.Common.{refl, sym, ◌∙◌, ap}
+use Rattle.reply.specs.Replies.{written_reply}
+use Rattle.reply.proofs.Rooms.{left, put_in}
 use Rattle.exports.proofs.Answering.{is-done, is-refused, left-refused, done-fits, done-put}
 use Rattle.exports.proofs.hub_write_cells.Goals as goal
 
@@ -25,3 +26,9 @@ returns-else-is_ok-clause-file c =
     let (q, e) = is-refused c.told-answer.result (sym c.is_ok.ensures.value ∙ c.if-is_ok.false) in
     left args.reply.now c.if-reply-lt-LENGTH.false _ _ _
     (left-refused args.pulse args.cells.now args.finish args.file.now (sym e ∙ c.told-answer.ensures args.cells.now args.file.now c.scanned-scan.ensures refl))
+
+pub returns-else-is_ok-clause-reply : goal.returns-else-is_ok-clause-reply
+returns-else-is_ok-clause-reply c =
+    let args = c.args in
+    put_in args.reply.now c.if-reply-lt-LENGTH.false _ _ _ c.put.ensures
+    (c.from.ensures ∙ ap written_reply (c.told-answer.ensures args.cells.now args.file.now c.scanned-scan.ensures refl))

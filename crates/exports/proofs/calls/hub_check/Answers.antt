@@ -1,0 +1,14 @@
+-- The exported check. Assumes nothing.
+use Rattle.std.proofs.Common.{refl, le-leb}
+use borrow.Author.Tests.{lt-leb}
+use Rattle.exports.proofs.calls.hub_check.Goals as goal
+
+pub returns-then-reply-lt-LENGTH : goal.returns-then-reply-lt-LENGTH
+returns-then-reply-lt-LENGTH c = rw (lt-leb 48 _ c.if-reply-lt-LENGTH.true) (record { done = refl; reply = refl })
+
+pub returns : goal.returns
+returns c =
+    let put = c in
+    let call = put in
+    let told = rw call.load_if-options.ensures at call.check-answer.ensures in
+    rw (le-leb 48 _ call.if-reply-lt-LENGTH.false) (record { done = refl; reply = rw (put.from.ensures, told) at put.put.ensures })

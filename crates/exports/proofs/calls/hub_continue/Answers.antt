@@ -1,0 +1,5 @@
+-- The exported continuing of a run, on a full state. Assumes nothing.
+use Rattle.exports.proofs.calls.hub_continue.Goals as goal
+
+pub returns : goal.returns
+returns c = record { done = c.continue_by.ensures.done; state = c.continue_by.ensures.state; reply = c.continue_by.ensures.reply }

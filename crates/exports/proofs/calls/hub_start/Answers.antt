@@ -1,0 +1,5 @@
+-- The exported start of a run, on a full state. Assumes nothing.
+use Rattle.exports.proofs.calls.hub_start.Goals as goal
+
+pub returns : goal.returns
+returns c = record { done = c.start.ensures.done; state = c.start.ensures.state; reply = c.start.ensures.reply }

@@ -1,9 +1,9 @@
 -- `asked::check_asked` meets its contract where it refuses: each comparison is the one of its definition. Assumes nothing.
-use Rattle.std.proofs.Common.{length, le-ltb, lt-ltb}
+use Rattle.std.proofs.Common.{length, le-ltb, lt-ltb, arith}
 use Rattle.model.proofs.asked.check_asked.Goals as goal
 
 pub returns-then-budget-gt-LAST_INSTANT-clause-checks : goal.returns-then-budget-gt-LAST_INSTANT-clause-checks
-returns-then-budget-gt-LAST_INSTANT-clause-checks c = rw (lt-ltb 1000000 c.args.budget c.if-budget-gt-LAST_INSTANT.true) c.refuse.ensures
+returns-then-budget-gt-LAST_INSTANT-clause-checks c = rw (lt-ltb 1000000 c.args.budget (omega (arith, c.if-budget-gt-LAST_INSTANT.true))) c.refuse.ensures
 
 pub returns-then-words-lt-START_WORDS-clause-checks : goal.returns-then-words-lt-START_WORDS-clause-checks
 returns-then-words-lt-START_WORDS-clause-checks c =

@@ -8,11 +8,10 @@ use crate::sets;
 use crate::wheel::Wheel;
 
 // The fanouts of all cells: that of cell c begins with entry `from[c]`, and ends where the next one begins.
-// Two lifetimes: whoever was lent the two lists apart could not lend them on at one.
 #[derive(Clone, Copy)]
-pub struct Fanouts<'a, 'b> {
+pub struct Fanouts<'a> {
     pub from: &'a [u16],
-    pub entries: &'b [u32],
+    pub entries: &'a [u32],
 }
 
 impl Wheel<'_> {
@@ -36,7 +35,7 @@ impl Wheel<'_> {
     }
 
     // Cell c is high at u: its whole fanout is scheduled.
-    pub fn propagate(&mut self, held: &mut [u8], fanouts: Fanouts<'_, '_>, c: usize, u: u32)
+    pub fn propagate(&mut self, held: &mut [u8], fanouts: Fanouts<'_>, c: usize, u: u32)
         requires { Room self.old.rows.now self.old.tag.now self.old.occupied.now held.old × (self.old.width ≤ 4) × (u ≤ 2000000) × (c < 1024) × Fanout fanouts.from.now fanouts.entries.now c }
         ensures events { events_of self.new held.new ≡ propagated fanouts.entry.from.now fanouts.entry.entries.now self.old.width u c (events_of self.old held.old) }
         ensures lists { SameLists self.old self.new }
